@@ -1,0 +1,5 @@
+pub mod Faults
+pub mod Files
+pub mod Shelf
+pub mod Sink
+pub mod Memory
