@@ -1,5 +1,5 @@
 // Each call once with ample memory, and what a number prints.
-use crate::{NoMemory, Num, Text};
+use crate::{Name, Names, NoMemory, Num, Text, line_col};
 use std::test::Fail;
 
 #[test]
@@ -27,4 +27,40 @@ fn a_text_is_shared(rt: HostRuntime) -> Result<(), Fail> {
     assert_eq!(rt; text.share()?.as_str(), "größer");
     assert_eq!(rt; NoMemory.to_string(rt.alloc())?.as_str(), "out of memory");
     Ok(())
+}
+
+#[test]
+fn names_are_numbered_as_they_come(rt: HostRuntime) -> Result<(), Fail> {
+    let mut names = Names::new(rt.alloc())?;
+    for (text, number) in [
+        ("a", 0),
+        ("b", 1),
+        ("a", 0),
+        ("größer", 2),
+        ("", 3),
+        ("b", 1),
+    ] {
+        assert_eq!(rt; names.intern(text)?, Name(number));
+    }
+    assert_eq!(rt; names.text(Name(1)), Some("b"));
+    assert_eq!(rt; names.text(Name(4)), None);
+    assert_eq!(rt; Names::empty(rt.alloc()).text(Name(0)), None);
+    Ok(())
+}
+
+#[test]
+fn lines_end_with_a_line_feed(rt: HostRuntime) {
+    let text = b"a\n\xC3\xB6c\r\n\n";
+    for (at, place) in [
+        (0, (1, 1)),
+        (1, (1, 2)),
+        (2, (2, 1)),
+        (5, (2, 4)),
+        (6, (2, 5)),
+        (7, (3, 1)),
+        (8, (4, 1)),
+    ] {
+        assert_eq!(rt; line_col(text, at), place, "at {at}");
+    }
+    assert_eq!(rt; line_col(b"", 0), (1, 1));
 }
