@@ -3,7 +3,8 @@ ghost use Rattle.std.specs.Prelude.{◌≡◌, ◌≤◌, ℕ, List, Option, IfO
 ghost use Rattle.sv_io.specs.Faults.{Rose};
 ghost use Rattle.sv_io.specs.Shelf.{IsGot, IsWithin};
 
-use std::alloc::Global;
+use std::alloc::{AllocError, Global};
+use sv_base::NoMemory;
 use thiserror::Error;
 
 /// What a shelf has under a name.
@@ -24,6 +25,28 @@ pub enum ShelfError {
     Failed,
     #[error("out of memory")]
     NoMemory,
+}
+
+impl From<NoMemory> for ShelfError {
+    ghost use Rattle.std.specs.Prelude.{◌≡◌};
+    ghost use Rattle.sv_io.specs.declared.shelf.ShelfError.TheVariants as errors;
+
+    ghost from_gives = { λ _ error. error ≡ errors.NoMemory };
+
+    fn from(_: NoMemory) -> ShelfError {
+        ShelfError::NoMemory
+    }
+}
+
+impl From<AllocError> for ShelfError {
+    ghost use Rattle.std.specs.Prelude.{◌≡◌};
+    ghost use Rattle.sv_io.specs.declared.shelf.ShelfError.TheVariants as errors;
+
+    ghost from_gives = { λ _ error. error ≡ errors.NoMemory };
+
+    fn from(_: AllocError) -> ShelfError {
+        ShelfError::NoMemory
+    }
 }
 
 /// A source of named files, which do not change.

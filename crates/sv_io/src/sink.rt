@@ -3,6 +3,7 @@ ghost use Rattle.std.specs.Prelude.{◌≡◌, ◌<◌, ◌≤◌, ℕ, List, Op
 ghost use Rattle.sv_io.specs.Faults.{Rose};
 ghost use Rattle.sv_io.specs.Sink.{with_bytes, AppendsFront};
 
+use sv_base::NoMemory;
 use thiserror::Error;
 
 /// Why a piece was not written.
@@ -12,6 +13,17 @@ pub enum SinkError {
     Failed,
     #[error("out of memory")]
     NoMemory,
+}
+
+impl From<NoMemory> for SinkError {
+    ghost use Rattle.std.specs.Prelude.{◌≡◌};
+    ghost use Rattle.sv_io.specs.declared.sink.SinkError.TheVariants as errors;
+
+    ghost from_gives = { λ _ error. error ≡ errors.NoMemory };
+
+    fn from(_: NoMemory) -> SinkError {
+        SinkError::NoMemory
+    }
 }
 
 /// A place that bytes are written to.
