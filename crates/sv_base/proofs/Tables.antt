@@ -1,5 +1,5 @@
 -- Numbers of texts in a table, and a table of owned texts seen as their bytes.
-use Rattle.std.proofs.Common.{◌≡◌, ◌≢◌, ◌≤◌, ◌<◌, ℕ, zero, suc, ◌+◌, Bool, true, false, not, ◌||◌, cond, List, [], ◌∷◌, ◌++◌, length, map, refl, ap, sym, ◌∙◌, subst, arith}
+use Rattle.std.proofs.Common.{◌≡◌, ◌≢◌, ◌≤◌, ◌<◌, ℕ, zero, suc, ◌+◌, Bool, true, false, not, ◌||◌, cond, List, [], ◌∷◌, ◌++◌, length, map, take, drop, append_assoc, length-append, length-take, take-append-drop, refl, ap, sym, ◌∙◌, subst, arith}
 use Rattle.std.specs.Prelude.{Some, None, slice_get, nat_lt, String}
 use Rattle.std.specs.Str.{bytes_eq}
 use Rattle.std.specs.List.{list_any, position_or_len, position, IsDistinct, AllByRecursion}
@@ -175,3 +175,55 @@ still_table old new owned table room more d =
 pub no_table : (keys : List (String Global)) → keys ≡ [] → IsTable (map string_bytes keys)
 unfolding IsDistinct
 no_table keys e = subst (λ z. IsTable (map string_bytes z)) (sym e) (record { distinct = tt; few = omega arith })
+
+-- an owned text that was not found
+pub not_found : (t : List ℕ) (keys : List (String Global)) (texts : List (List ℕ)) → map string_bytes keys ≡ texts
+    → list_any (λ k. bytes_eq t (string_bytes k)) keys ≡ false → number_of t texts ≡ length texts
+unfolding number_of
+not_found t keys texts e absent =
+    subst (λ z. position_or_len (bytes_eq t) z ≡ length z) e (none (bytes_eq t) (map string_bytes keys) (list_any-map (bytes_eq t) string_bytes keys ∙ absent))
+
+pub found_within : (keys : List (String Global)) (texts : List (List ℕ)) (at : ℕ) → map string_bytes keys ≡ texts → at < length keys → at < length texts
+found_within keys texts at e h = subst (λ z. at < length z) e (let l = length-map string_bytes keys in omega arith)
+
+-- ---- joining two tables
+
+slice_get-front : (xs ys : List (List ℕ)) (i : ℕ) (t : List ℕ) → slice_get xs i ≡ Some t → slice_get (xs ++ ys) i ≡ Some t
+slice_get-front [] ys i t h = absurd (cc)
+slice_get-front (x ∷ xs) ys zero t h = h
+slice_get-front (x ∷ xs) ys (suc i) t h = slice_get-front xs ys i t h
+
+slice_get-back : (xs ys : List (List ℕ)) (k : ℕ) → slice_get (xs ++ ys) (length xs + k) ≡ slice_get ys k
+slice_get-back [] ys k = let e : 0 + k ≡ k = omega arith in ap (slice_get ys) e
+slice_get-back (x ∷ xs) ys k =
+    let e : length (x ∷ xs) + k ≡ suc (length xs + k) = omega arith in ap (slice_get (x ∷ (xs ++ ys))) e ∙ slice_get-back xs ys k
+
+take_one_more : (ys : List (List ℕ)) (k : ℕ) (t : List ℕ) → slice_get ys k ≡ Some t → take (k + 1) ys ≡ take k ys ++ t ∷ []
+take_one_more [] k t h = absurd (cc)
+take_one_more (y ∷ ys) zero t h = let e : y ≡ t = cc in ap (λ z. z ∷ []) e
+take_one_more (y ∷ ys) (suc k) t h = let e : suc k + 1 ≡ suc (k + 1) = omega arith in ap (λ n. take n (y ∷ ys)) e ∙ ap (λ z. y ∷ z) (take_one_more ys k t h)
+
+-- what is not yet there of a table that has it later
+absent : (old more : List (List ℕ)) (k : ℕ) (t : List ℕ) → IsDistinct bytes_eq (old ++ more) → slice_get more k ≡ Some t
+    → list_any (bytes_eq t) (old ++ take k more) ≡ false
+absent old more k t d h = by (list_any (bytes_eq t) (old ++ take k more)) refl
+  where
+    by : (b : Bool) → list_any (bytes_eq t) (old ++ take k more) ≡ b → b ≡ false
+    by false e = refl
+    by true e =
+        let at = position_or_len (bytes_eq t) (old ++ take k more) in
+        let h' : at < length (old ++ take k more) = within (bytes_eq t) (old ++ take k more) e in
+        let first : slice_get (old ++ take k more) at ≡ Some t = known t (old ++ take k more) h' in
+        let whole : (old ++ take k more) ++ drop k more ≡ old ++ more = append_assoc old (take k more) (drop k more) ∙ ap (λ z. old ++ z) (take-append-drop k more) in
+        let here : slice_get (old ++ more) at ≡ Some t = ap (λ z. slice_get z at) (sym whole) ∙ slice_get-front (old ++ take k more) (drop k more) at t first in
+        let there : slice_get (old ++ more) (length old + k) ≡ Some t = slice_get-back old more k ∙ h in
+        let same : at ≡ length old + k = once (old ++ more) t at (length old + k) d here there in
+        let size : length (old ++ take k more) ≤ length old + k = omega (arith, length-append old (take k more), length-take k more) in
+        absurd (omega arith)
+
+pub join-step : (old more now : List (List ℕ)) (k : ℕ) (t : List ℕ) → IsTable (old ++ more) → slice_get more k ≡ Some t → now ≡ old ++ take k more
+    → with_text t now ≡ old ++ take (k + 1) more
+unfolding with_text
+join-step old more now k t table h e =
+    let new : list_any (bytes_eq t) now ≡ false = ap (list_any (bytes_eq t)) e ∙ absent old more k t table.distinct h in
+    ap (λ b. cond b now (now ++ t ∷ [])) new ∙ ap (λ z. z ++ t ∷ []) e ∙ append_assoc old (take k more) (t ∷ []) ∙ ap (λ z. old ++ z) (sym (take_one_more more k t h))

@@ -1,6 +1,6 @@
 // Texts by number.
-ghost use Rattle.std.specs.Prelude.{◌≡◌, ℕ, ◌≤◌, ◌↔◌, [], length, slice_get, IsNone, IfOk, OnOk, OnErr, IfSome};
-ghost use Rattle.sv_base.specs.Names.{number_of, with_text};
+ghost use Rattle.std.specs.Prelude.{◌≡◌, ℕ, ◌≤◌, ◌↔◌, ◌++◌, [], length, take, slice_get, IsNone, IfOk, OnOk, OnErr, IfSome};
+ghost use Rattle.sv_base.specs.Names.{number_of, with_text, IsTable};
 
 use crate::NoMemory;
 use crate::limits::NAME_LIMIT;
@@ -69,6 +69,40 @@ impl Names {
         let owned = String::from_str(self.alloc, text)?;
         let (at, _) = self.texts.insert_full(owned)?;
         Ok(Name(at as u32))
+    }
+
+    /// The name of `text`, or `None` exactly where it has none.
+    pub fn find(&self, text: &str) -> Option<Name>
+        ensures number { IfSome result (λ name. name.0 ≡ number_of text.now self.now) }
+        ensures known { IfSome result (λ name. slice_get self.now name.0 ≡ Some text.now) }
+        ensures none { IsNone result ↔ (number_of text.now self.now ≡ length self.now) }
+    {
+        match self.texts.get_index_of(text) {
+            Some(at) => Some(Name(at as u32)),
+            None => None,
+        }
+    }
+
+    /// How many names there are.
+    pub fn len(&self) -> u32
+        ensures { result ≡ length self.now }
+    {
+        self.texts.len() as u32
+    }
+
+    /// Adds the names of `more` behind its own, with which they are still a table. On want of memory some may have been
+    /// added.
+    pub fn append(&mut self, more: &Names) -> Result<(), NoMemory>
+        requires { IsTable (self.old ++ more.now) }
+        ensures ok { OnOk result (self.new ≡ self.old ++ more.now) }
+        ensures err { OnErr result (take (length self.old) self.new ≡ self.old) }
+    {
+        for number in 0..more.len() {
+            if let Some(text) = more.text(Name(number)) {
+                self.intern(text)?;
+            }
+        }
+        Ok(())
     }
 
     /// The text of a name, or `None` exactly where its number is not given out.

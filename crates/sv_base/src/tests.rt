@@ -44,7 +44,13 @@ fn names_are_numbered_as_they_come(rt: HostRuntime) -> Result<(), Fail> {
     }
     assert_eq!(rt; names.text(Name(1)), Some("b"));
     assert_eq!(rt; names.text(Name(4)), None);
-    assert_eq!(rt; Names::empty(rt.alloc()).text(Name(0)), None);
+    assert_eq!(rt; names.find("größer"), Some(Name(2)));
+    assert_eq!(rt; names.find("c"), None);
+    let none = Names::empty(rt.alloc());
+    assert_eq!(rt; none.text(Name(0)), None);
+    let count = names.len();
+    names.append(&none)?;
+    assert_eq!(rt; names.len(), count);
     Ok(())
 }
 
