@@ -1,0 +1,4 @@
+pub mod Items
+pub mod Pairs
+pub mod Search
+pub mod Maps

@@ -1,0 +1,12 @@
+pub mod Value
+pub mod Object
+pub mod Change
+pub mod Words
+pub mod Stored
+pub mod View
+pub mod Kept
+pub mod Making
+pub mod Falls
+pub mod Measured
+pub mod Found
+pub mod Key
