@@ -1,0 +1,11 @@
+pub mod Bounds
+pub mod Deciding
+pub mod Pieces
+pub mod Lists
+pub mod Members
+pub mod OneAnswer
+pub mod Spelling
+pub mod Playing
+pub mod Progress
+pub mod Reading
+pub mod Running

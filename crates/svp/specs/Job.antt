@@ -1,0 +1,31 @@
+-- The answer that a job gives.
+use Rattle.std.specs.Prelude.{◌≤◌, length, string_bytes, ⊤}
+use Rattle.svp.specs.Answer.{Answer, usage, missing, source, events, turns, Fault, too_long, not_built}
+use Rattle.svp.specs.Counter.{form_of}
+use Rattle.svp.specs.Form.{IsForm}
+use Rattle.svp.specs.Words.{bytes_of}
+use Rattle.svp.specs.declared.job.Job.{Job}
+use Rattle.svp.specs.declared.job.Job.TheVariants as jobs
+use Rattle.svp.specs.declared.job.Refusal.{Refusal}
+use Rattle.svp.specs.declared.job.Refusal.TheVariants as refusals
+use Rattle.svp.specs.declared.job.FileFault.{FileFault}
+use Rattle.svp.specs.declared.job.FileFault.TheVariants as faults
+
+abbrev pub fault_of : FileFault → Fault
+fault_of faults.TooLong = too_long
+fault_of faults.NotBuilt = not_built
+
+abbrev pub refusal_of : Refusal → Answer
+refusal_of refusals.Usage = usage
+refusal_of (refusals.Missing name) = missing (string_bytes name)
+refusal_of (refusals.Source root fault) = source (string_bytes root) (fault_of fault)
+refusal_of (refusals.Events fault) = events (fault_of fault)
+
+abbrev pub answer_of : Job → Answer
+answer_of (jobs.Refuse refusal) = refusal_of refusal
+answer_of (jobs.Play counter ids) = turns (form_of counter) (bytes_of ids.items)
+
+-- what is played is a counter and few enough events
+abbrev pub IsPlayable : Job → Type 0
+IsPlayable (jobs.Refuse refusal) = ⊤
+IsPlayable (jobs.Play counter ids) = IsForm (form_of counter) × (length (bytes_of ids.items) ≤ 100000)

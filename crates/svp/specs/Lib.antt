@@ -1,0 +1,10 @@
+pub mod Words
+pub mod Form
+pub mod Page
+pub mod EventsFile
+pub mod Answer
+pub mod Run
+pub mod Counter
+pub mod Fields
+pub mod Job
+pub mod Load

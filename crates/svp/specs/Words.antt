@@ -1,0 +1,35 @@
+-- The words of the command line.
+use Rattle.std.specs.Prelude.{◌≡◌, ℕ, ◌<◌, ◌||◌, ◌==◌, List, [], ◌∷◌, ◌++◌, length, Bool, true, codes, map, String, string_bytes}
+use Rattle.std.specs.List.{list_all}
+use Rattle.std.specs.declared.alloc.Global.{Global}
+use Rattle.std.specs.Char.{is_ascii_alphanumeric}
+
+-- a letter or digit of ASCII, `_` or `-`
+abbrev pub is_name_byte : ℕ → Bool
+is_name_byte c = is_ascii_alphanumeric c || c == 95 || c == 45
+
+-- the name of a root file: such bytes, and then `.svelte`
+pub record IsRoot (word : List ℕ) : Type 0 where
+  pub name : List ℕ
+  pub some : 0 < length name
+  pub bytes : list_all is_name_byte name ≡ true
+  pub ends : word ≡ name ++ codes ".svelte"
+
+-- the name of an events file: not empty, and not with two dashes at its front
+pub record IsEvents (word : List ℕ) : Type 0 where
+  pub some : 0 < length word
+  pub no_flag : (rest : List ℕ) → word ≡ 45 ∷ 45 ∷ rest → ⊥
+
+-- the words `run ROOT EVENTS`
+pub record IsRun (words : List (List ℕ)) (root events : List ℕ) : Type 0 where
+  pub form : words ≡ codes "run" ∷ root ∷ events ∷ []
+  pub root_name : IsRoot root
+  pub events_name : IsEvents events
+
+-- the words are no form
+abbrev pub IsNoForm : List (List ℕ) → Type 0
+IsNoForm words = (root events : List ℕ) → IsRun words root events → ⊥
+
+-- texts as their bytes
+abbrev pub bytes_of : List (String Global) → List (List ℕ)
+bytes_of texts = map string_bytes texts

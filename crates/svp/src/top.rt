@@ -1,0 +1,148 @@
+// The top call: it decides what the words and the files ask for, and prints it.
+ghost use Rattle.std.specs.Prelude.{◌≡◌, ◌≢◌, ◌+◌, ◌*◌, ◌<◌, ◌≤◌, IfOk, OnOk, OnErr, IfSome, length};
+ghost use Rattle.sv_io.specs.Faults.{Rose};
+ghost use Rattle.sv_io.specs.Sink.{with_bytes, AppendsFront};
+ghost use Rattle.svp.specs.Form.{IsForm, largest};
+ghost use Rattle.svp.specs.Page.{pages, meets, clicked};
+ghost use Rattle.svp.specs.Words.{bytes_of};
+ghost use Rattle.svp.specs.Counter.{form_of};
+ghost use Rattle.svp.specs.Answer.{IsAnswer, status_of, text_of};
+ghost use Rattle.svp.specs.Job.{answer_of, IsPlayable};
+ghost use Rattle.svp.specs.Run.{RunAnswers, RunCompletes};
+
+use crate::counter::Counter;
+use crate::job::{Job, Refusal};
+use crate::load::{Loaded, load_counter, load_events};
+use crate::page::turn_text;
+use crate::status::Status;
+use crate::words::run_words;
+use std::alloc::Global;
+use sv_io::{Shelf, ShelfError, Sink, SinkError, write_all};
+
+// What the words and the files ask for.
+fn decide<F: Shelf>(alloc: Global, words: &[String], shelf: &mut F) -> Result<Job, ShelfError>
+    ensures answer { IfOk result (λ job. IfSome (F.files shelf.old) (λ files. IsAnswer (bytes_of words.now) files (answer_of job))) }
+    ensures playable { IfOk result IsPlayable }
+    ensures later { F.faults shelf.old ≤ F.faults shelf.new }
+    ensures failed { result ≡ Err ShelfError.Failed → Rose (F.faults shelf.old) (F.faults shelf.new) }
+{
+    let Some((root, file)) = run_words(words) else {
+        return Ok(Job::Refuse(Refusal::Usage));
+    };
+    let counter = match load_counter(alloc, root, shelf)? {
+        Loaded::Read(counter) => counter,
+        Loaded::Missing => {
+            let name = String::from_str(alloc, root)?;
+            return Ok(Job::Refuse(Refusal::Missing(name)));
+        }
+        Loaded::Refused(fault) => {
+            let name = String::from_str(alloc, root)?;
+            return Ok(Job::Refuse(Refusal::Source(name, fault)));
+        }
+    };
+    match load_events(alloc, file, shelf)? {
+        Loaded::Read(ids) => Ok(Job::Play(counter, ids)),
+        Loaded::Missing => {
+            let name = String::from_str(alloc, file)?;
+            Ok(Job::Refuse(Refusal::Missing(name)))
+        }
+        Loaded::Refused(fault) => Ok(Job::Refuse(Refusal::Events(fault))),
+    }
+}
+
+// Whether a click on this id meets the button, and the variable after it.
+fn click(counter: &Counter, count: u64, id: &str) -> (bool, u64)
+    requires step { counter.now.step ≤ largest }
+    requires room { count ≤ largest * 100001 }
+    ensures found { result.0 ≡ meets (form_of counter.now) id.now }
+    ensures count { result.1 ≡ clicked (form_of counter.now) count id.now }
+    ensures bound { result.1 ≤ count + largest }
+{
+    if id == counter.id.as_str() {
+        (true, count + u64::from(counter.step))
+    } else {
+        (false, count)
+    }
+}
+
+// Prints the page, and then the page after each click.
+fn play<K: Sink>(
+    alloc: Global,
+    counter: &Counter,
+    ids: &[String],
+    out: &mut K,
+) -> Result<(), SinkError>
+    requires form { IsForm (form_of counter.now) }
+    requires few { length ids.now ≤ 100000 }
+    ensures all { OnOk result (K.written out.new ≡ with_bytes (K.written out.old) (pages (form_of counter.now) (bytes_of ids.now))) }
+    ensures front { OnErr result (AppendsFront (K.written out.old) (K.written out.new) (pages (form_of counter.now) (bytes_of ids.now))) }
+    ensures later { K.faults out.old ≤ K.faults out.new }
+    ensures failed { result ≡ Err SinkError.Failed → Rose (K.faults out.old) (K.faults out.new) }
+{
+    let mut count = u64::from(counter.start);
+    let mut number = 0;
+    let first = turn_text(alloc, counter, number, true, count)?;
+    write_all(out, first.as_bytes())?;
+    for id in ids {
+        number += 1;
+        let (found, next) = click(counter, count, id.as_str());
+        count = next;
+        let text = turn_text(alloc, counter, number, found, count)?;
+        write_all(out, text.as_bytes())?;
+    }
+    Ok(())
+}
+
+// Prints the answer of the job.
+fn answer<K: Sink>(alloc: Global, job: &Job, out: &mut K) -> Result<Status, SinkError>
+    requires { IsPlayable job.now }
+    ensures status { IfOk result (λ status. status ≡ status_of (answer_of job.now)) }
+    ensures all { OnOk result (K.written out.new ≡ with_bytes (K.written out.old) (text_of (answer_of job.now))) }
+    ensures front { OnErr result (AppendsFront (K.written out.old) (K.written out.new) (text_of (answer_of job.now))) }
+    ensures later { K.faults out.old ≤ K.faults out.new }
+    ensures failed { result ≡ Err SinkError.Failed → Rose (K.faults out.old) (K.faults out.new) }
+{
+    match job {
+        Job::Refuse(refusal) => {
+            let line = refusal.line(alloc)?;
+            write_all(out, line.as_bytes())?;
+            Ok(refusal.status())
+        }
+        Job::Play(counter, ids) => {
+            play(alloc, counter, ids, out)?;
+            Ok(Status::Ok)
+        }
+    }
+}
+
+/// Reads the files that the words name, prints what they ask for, and answers how it ended.
+pub fn run<F: Shelf, K: Sink>(alloc: Global, words: &[String], shelf: &mut F, out: &mut K) -> Status
+    // Where the files are told: what was written is the output of an answer with this status that the words and the files
+    // call for, nothing after a failed read, and nothing or a front of such an output where a write failed or memory is wanted.
+    ensures answers { IfSome (F.files shelf.old) (λ files.
+        RunAnswers (bytes_of words.now) files (K.written out.old) (K.written out.new) result) }
+
+    // Where no count of faults rose, each answer that they call for is given, unless memory is wanted.
+    ensures completes { IfSome (F.files shelf.old) (λ files.
+        (Rose (F.faults shelf.old) (F.faults shelf.new) → ⊥) → (Rose (K.faults out.old) (K.faults out.new) → ⊥)
+        → RunCompletes (bytes_of words.now) files (K.written out.old) (K.written out.new) result) }
+
+    // A fault is answered only where a count rose in this call, and counts never fall. No turn of a counter is refused.
+    ensures read_fault { result ≡ Status.ReadFault → Rose (F.faults shelf.old) (F.faults shelf.new) }
+    ensures read_nothing { result ≡ Status.ReadFault → K.written out.new ≡ K.written out.old }
+    ensures write_fault { result ≡ Status.WriteFault → Rose (K.faults out.old) (K.faults out.new) }
+    ensures shelf_later { F.faults shelf.old ≤ F.faults shelf.new }
+    ensures sink_later { K.faults out.old ≤ K.faults out.new }
+    ensures no_turn { result ≢ Status.Turn }
+{
+    let job = match decide(alloc, words, shelf) {
+        Ok(job) => job,
+        Err(ShelfError::Failed) => return Status::ReadFault,
+        Err(ShelfError::NoMemory) => return Status::NoMemory,
+    };
+    match answer(alloc, &job, out) {
+        Ok(status) => status,
+        Err(SinkError::Failed) => Status::WriteFault,
+        Err(SinkError::NoMemory) => Status::NoMemory,
+    }
+}
