@@ -85,7 +85,8 @@ impl Names {
 
     /// How many names there are.
     pub fn len(&self) -> u32
-        ensures { result ≡ length self.now }
+        ensures count { result ≡ length self.now }
+        ensures table { IsTable self.now }
     {
         self.texts.len() as u32
     }

@@ -1,4 +1,4 @@
-use Rattle.std.proofs.Common.{◌≡◌, ◌≤◌, length, refl, sym, ◌∙◌, arith}
+use Rattle.std.proofs.Common.{◌≤◌, length, refl, ◌∙◌, arith}
 use Rattle.sv_base.proofs.Tables.{join-step}
 use Rattle.sv_base.proofs.names.Names.append.Goals as goal
 use Rattle.sv_base.proofs.names.Names.append.Goals.{in-Some+in_ok-intern, in_default}

@@ -1,6 +1,6 @@
-use Rattle.std.proofs.Common.{◌≡◌, ◌<◌, length, refl, sym, ◌∙◌, arith}
+use Rattle.std.proofs.Common.{◌≡◌, ◌<◌, length, refl, sym, arith}
 use Rattle.sv_base.specs.Names.{number_of}
-use Rattle.sv_base.proofs.Tables.{Interned, found, found_within, not_found}
+use Rattle.sv_base.proofs.Tables.{found, found_within, not_found}
 use Rattle.sv_base.proofs.names.Names.find.Goals as goal
 
 pub returns-in-Some-clause-number : goal.returns-in-Some-clause-number
