@@ -1,0 +1,11 @@
+//! The steps that turn one list of rows' keys into another.
+#![tactic(auto)]
+
+mod arrange;
+mod places;
+mod step;
+#[cfg(test)]
+mod tests;
+
+pub use arrange::moves;
+pub use step::{KeyRefusal, KeyStep};
