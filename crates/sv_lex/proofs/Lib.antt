@@ -1,0 +1,12 @@
+pub mod Chars
+pub mod Closings
+pub mod Ends
+pub mod Joined
+pub mod Longest
+pub mod Progress
+pub mod Runs
+pub mod Sees
+pub mod Steps
+pub mod Taken
+pub mod Utf8
+pub mod Written

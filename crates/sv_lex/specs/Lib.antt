@@ -1,0 +1,13 @@
+pub mod Characters
+pub mod Comments
+pub mod Cursor
+pub mod Digits
+pub mod Laws
+pub mod Literals
+pub mod Look
+pub mod Pieces
+pub mod Reader
+pub mod Signs
+pub mod Strings
+pub mod Token
+pub mod Words
