@@ -1,0 +1,6 @@
+pub mod Counting
+pub mod Splits
+pub mod Seen
+pub mod Replay
+pub mod Examples
+pub mod Standing

@@ -1,0 +1,5 @@
+pub mod Counting
+pub mod Token
+pub mod Edit
+pub mod Seen
+pub mod Replay
