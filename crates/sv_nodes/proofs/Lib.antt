@@ -1,0 +1,13 @@
+pub mod Walk
+pub mod Around
+pub mod Siblings
+pub mod Growing
+pub mod Rewriting
+pub mod Shrinking
+pub mod Removing
+pub mod Slabs
+pub mod Places
+pub mod Starting
+pub mod Finding
+pub mod Attributes
+pub mod Shown

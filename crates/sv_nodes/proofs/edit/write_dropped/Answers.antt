@@ -1,0 +1,9 @@
+use Rattle.std.proofs.Common.{ap, sym}
+use Rattle.sv_tokens.specs.Edit.{without_slot}
+use Rattle.sv_nodes.specs.Nodes.{reshape, with_kind}
+use Rattle.sv_nodes.proofs.Slabs.{rewrites-write, seen_kind}
+use Rattle.sv_nodes.proofs.edit.write_dropped.Goals as goal
+
+pub returns-in-Some : goal.returns-in-Some
+returns-in-Some c =
+    rewrites-write c.args.nodes.now c.args.key (with_kind (reshape (without_slot c.args.slot))) c.in-Some.entry.now _ (sym c.in-Some.ensures.value) (ap (seen_kind c.in-Some.entry.now) c.drop_content.ensures)

@@ -1,0 +1,5 @@
+pub mod Nodes
+pub mod Sound
+pub mod Steps
+pub mod Cells
+pub mod Made
