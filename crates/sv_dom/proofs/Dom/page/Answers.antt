@@ -1,0 +1,9 @@
+use Rattle.std.proofs.Common.{subst}
+use Rattle.sv_tokens.specs.Counting.{Has}
+use Rattle.sv_tokens.specs.Token.{Page, opens}
+use Rattle.sv_nodes.specs.Cells.{nodes_of}
+use Rattle.sv_dom.proofs.NodeKinds.{page-stands}
+use Rattle.sv_dom.proofs.Dom.page.Goals as goal
+
+pub returns-clause-stands : goal.returns-clause-stands
+returns-clause-stands c = subst (λ (z : Page). Has (opens 0) z.tokens) c.self.view_is (page-stands (nodes_of c.self.inside.nodes.slots) c.self.inside.next c.self.invariant.sound)

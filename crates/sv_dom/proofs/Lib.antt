@@ -1,0 +1,5 @@
+pub mod Telling
+pub mod Making
+pub mod Removal
+pub mod NodeKinds
+pub mod Starting
