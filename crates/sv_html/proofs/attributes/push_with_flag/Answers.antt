@@ -1,0 +1,10 @@
+use Rattle.std.proofs.Common.{◌≡◌, ◌∙◌, ◌++◌, ap, take}
+use Rattle.sv_tokens.specs.declared.element.Attr.TheVariants.{Flag}
+use Rattle.sv_html.specs.Html.{attributes_html}
+use Rattle.sv_html.proofs.Laying.{printed-lay}
+use Rattle.sv_html.proofs.attributes.push_with_flag.Goals as goal
+
+pub returns : goal.returns
+returns c =
+    printed-lay c.args.name.now Flag c.args.attributes.now c.behind.result.now c.place_of_name-at.result c.args.out.now.items c.push_attributes.new.out.items c.push_flag.new.out.items c.push_attributes-2.new.out.items c.place_of_name-at.ensures.count
+    (c.in_ok-push_attributes.ensures ∙ ap (λ z. c.args.out.now.items ++ attributes_html z) c.front.ensures) c.in_ok-push_flag.ensures c.behind.ensures c.in_ok-push_attributes-2.ensures
