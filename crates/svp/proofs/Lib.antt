@@ -5,7 +5,9 @@ pub mod Lists
 pub mod Members
 pub mod OneAnswer
 pub mod Spelling
+pub mod Staging
 pub mod Playing
+pub mod Printed
 pub mod Progress
 pub mod Reading
 pub mod Running

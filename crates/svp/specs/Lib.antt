@@ -8,3 +8,4 @@ pub mod Counter
 pub mod Fields
 pub mod Job
 pub mod Load
+pub mod Stage

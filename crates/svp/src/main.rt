@@ -9,6 +9,7 @@ mod laws;
 mod load;
 mod page;
 mod read;
+mod stage;
 mod status;
 #[cfg(test)]
 mod tests;

@@ -9,14 +9,17 @@ ghost use Rattle.svp.specs.Counter.{form_of};
 ghost use Rattle.svp.specs.Answer.{IsAnswer, status_of, text_of};
 ghost use Rattle.svp.specs.Job.{answer_of, IsPlayable};
 ghost use Rattle.svp.specs.Run.{RunAnswers, RunCompletes};
+ghost use Rattle.svp.specs.Stage.{Shows};
 
 use crate::counter::Counter;
 use crate::job::{Job, Refusal};
 use crate::load::{Loaded, load_counter, load_events};
 use crate::page::turn_text;
+use crate::stage::Stage;
 use crate::status::Status;
 use crate::words::run_words;
 use std::alloc::Global;
+use sv_base::NoMemory;
 use sv_io::{Shelf, ShelfError, Sink, SinkError, write_all};
 
 // What the words and the files ask for.
@@ -50,19 +53,28 @@ fn decide<F: Shelf>(alloc: Global, words: &[String], shelf: &mut F) -> Result<Jo
     }
 }
 
-// Whether a click on this id meets the button, and the variable after it.
-fn click(counter: &Counter, count: u64, id: &str) -> (bool, u64)
+// A click on this id: whether it meets the button, and the variable after it, which the page then shows.
+fn click(
+    alloc: Global,
+    stage: &mut Stage,
+    counter: &Counter,
+    count: u64,
+    id: &str,
+) -> Result<(bool, u64), NoMemory>
     requires step { counter.now.step ≤ largest }
     requires room { count ≤ largest * 100001 }
-    ensures found { result.0 ≡ meets (form_of counter.now) id.now }
-    ensures count { result.1 ≡ clicked (form_of counter.now) count id.now }
-    ensures bound { result.1 ≤ count + largest }
+    requires shown { Shows stage.old (form_of counter.now) count }
+    ensures found { IfOk result (λ turn. turn.0 ≡ meets (form_of counter.now) id.now) }
+    ensures count { IfOk result (λ turn. turn.1 ≡ clicked (form_of counter.now) count id.now) }
+    ensures bound { IfOk result (λ turn. turn.1 ≤ count + largest) }
+    ensures shows { IfOk result (λ turn. Shows stage.new (form_of counter.now) turn.1) }
 {
-    if id == counter.id.as_str() {
-        (true, count + u64::from(counter.step))
-    } else {
-        (false, count)
+    if !stage.meets(id) {
+        return Ok((false, count));
     }
+    let count = count + u64::from(counter.step);
+    stage.show(alloc, counter, count)?;
+    Ok((true, count))
 }
 
 // Prints the page, and then the page after each click.
@@ -81,14 +93,15 @@ fn play<K: Sink>(
 {
     let mut count = u64::from(counter.start);
     let mut number = 0;
-    let first = turn_text(alloc, counter, number, true, count)?;
-    write_all(out, first.as_bytes())?;
+    let mut stage = Stage::mount(alloc, counter, count)?;
+    let first = turn_text(alloc, &stage, number, true)?;
+    write_all(out, &first)?;
     for id in ids {
         number += 1;
-        let (found, next) = click(counter, count, id.as_str());
+        let (found, next) = click(alloc, &mut stage, counter, count, id)?;
         count = next;
-        let text = turn_text(alloc, counter, number, found, count)?;
-        write_all(out, text.as_bytes())?;
+        let text = turn_text(alloc, &stage, number, found)?;
+        write_all(out, &text)?;
     }
     Ok(())
 }
