@@ -17,12 +17,12 @@ const PLACE_LIMIT: usize = u32::MAX as usize;
 /// The steps that lead from the old keys to the new ones: what is not in the new list goes, and then, from the new list's end
 /// on, each row that does not stand in its place is made or moved.
 ///
-/// Applied in order to `old` they give `new`; equal lists give none; a key in both lists is neither dropped nor made, and only
-/// such a key is moved. All this holds where no key stands twice in `old`. `Duplicate` comes exactly where a key stands twice
-/// in `new`.
+/// Where no key stands twice in `old`, the steps applied in order to `old` give `new`, a key in both lists is neither dropped
+/// nor made, and only such a key is moved. Equal lists give no step. `Duplicate` comes exactly where a key stands twice in
+/// `new`.
 pub fn moves(alloc: Global, old: &[Key], new: &[Key]) -> Result<Vec<KeyStep>, KeyRefusal>
     ensures steps { IfOk result (λ steps. IsDistinct old.now → Leads old.now new.now steps.items) }
-    ensures idle { IfOk result (λ steps. IsDistinct old.now → old.now ≡ new.now → steps.items ≡ []) }
+    ensures idle { IfOk result (λ steps. old.now ≡ new.now → steps.items ≡ []) }
     ensures distinct { OnOk result (first_repeat new.now ≡ None) }
     ensures duplicate { (k : Key) → result ≡ Err (KeyRefusal.Duplicate k) → first_repeat new.now ≡ Some k }
 {
@@ -41,7 +41,8 @@ fn walk(alloc: Global, old: &[Key], new: &[Key]) -> Result<Vec<KeyStep>, NoMemor
     requires once { first_repeat new.now ≡ None }
     requires few_old { length old.now < 2 ^ 32 }
     requires few_new { length new.now < 2 ^ 32 }
-    ensures { IfOk result (λ steps. IsDistinct old.now → Placing old.now new.now steps.items [] 0) }
+    ensures placed { IfOk result (λ steps. IsDistinct old.now → Placing old.now new.now steps.items [] 0) }
+    ensures idle { IfOk result (λ steps. old.now ≡ new.now → steps.items ≡ []) }
 {
     let mut steps = Vec::new(alloc);
     let mut gone = drop_gone(alloc, old, new, &mut steps)?;
