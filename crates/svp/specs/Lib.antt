@@ -9,3 +9,4 @@ pub mod Fields
 pub mod Job
 pub mod Load
 pub mod Stage
+pub mod Status

@@ -1,4 +1,5 @@
-ghost use Rattle.std.specs.Prelude.{◌≤◌};
+ghost use Rattle.std.specs.Prelude.{◌≡◌};
+ghost use Rattle.svp.specs.Status.{code_of};
 
 /// How a run ended. The exit statuses are 0 to 8 in this order.
 #[derive(Clone, Copy, Debug, PartialEq, Eq)]
@@ -26,7 +27,7 @@ pub enum Status {
 impl Status {
     /// The exit status, from 0 to 8.
     pub fn code(self) -> u8
-        ensures { result ≤ 8 }
+        ensures { result ≡ code_of self }
     {
         self as u8
     }
