@@ -8,6 +8,7 @@ mod entry;
 mod find;
 mod grow;
 mod same;
+mod shift;
 mod shrink;
 
 pub use edit::{write_attribute, write_dropped, write_text, write_typed};
@@ -15,4 +16,5 @@ pub use entry::{Content, Element, Entry, entry_at};
 pub use find::{find_in, follower};
 pub use grow::{Made, make_node};
 pub use same::{has_attribute, has_no_slot, has_text, has_typed};
+pub use shift::{Followers, move_node};
 pub use shrink::remove_in;
