@@ -61,7 +61,8 @@ pub(crate) fn shift_child(
 ) -> usize
     requires child { IsStart (Some child) from children.old.items }
     requires place { IsAt before (remove children.old.items from) }
-    ensures { Reorders child from result before children.old.items children.new.items }
+    ensures shifted { Reorders child from result before children.old.items children.new.items }
+    ensures bound { result < usize.MAX }
 {
     children.remove(from);
     let to = place_of(children, before);

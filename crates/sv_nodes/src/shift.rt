@@ -1,5 +1,5 @@
 // A node goes elsewhere among the children of its parent.
-ghost use Rattle.std.specs.Prelude.{◌≡◌, ◌≢◌, ◌≤◌, Some, IfSome, IsSomeAnd};
+ghost use Rattle.std.specs.Prelude.{◌≡◌, ◌≢◌, ◌<◌, Some, IfSome, IsSomeAnd};
 ghost use Rattle.std.specs.List.{remove};
 ghost use Rattle.slab.specs.Slab.{get, with_value};
 ghost use Rattle.sv_nodes.specs.Nodes.{with_children};
@@ -46,9 +46,10 @@ fn shift_in(
     before: Option<u32>,
 ) -> usize
     requires { IsSomeAnd (get nodes.old parent) (λ entry. IsStart (Some child) from entry.children.items × IsAt before (remove entry.children.items from)) }
-    ensures { IfSome (get nodes.old parent) (λ entry. (shifted : Entry) × (nodes.new ≡ with_value nodes.old parent shifted)
+    ensures shifted { IfSome (get nodes.old parent) (λ entry. (shifted : Entry) × (nodes.new ≡ with_value nodes.old parent shifted)
         × (cell_of shifted ≡ with_children (cell_of entry) shifted.children.items)
         × Reorders child from result before entry.children.items shifted.children.items) }
+    ensures bound { result < usize.MAX }
 {
     match nodes.get_mut(parent) {
         Some(entry) => shift_child(&mut entry.children, child, from, before),
