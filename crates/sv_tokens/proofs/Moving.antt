@@ -1,8 +1,9 @@
 -- A node stands elsewhere on a page.
-use Rattle.std.proofs.Common.{◌≡◌, ◌≤◌, ◌+◌, ℕ, List, [], ◌∷◌, ◌++◌, Bool, true, Option, refl, ap, sym, ◌∙◌, arith, subst, append_assoc}
+use Rattle.std.proofs.Common.{◌≡◌, ◌≤◌, ◌+◌, ℕ, List, [], ◌∷◌, ◌++◌, Bool, true, false, Option, refl, ap, sym, ◌∙◌, arith, subst, append_assoc}
+use Rattle.std.specs.Prelude.{if◌then◌else◌}
 use Rattle.std.proofs.lemmas.Bool.{eq-eqb}
-use Rattle.sv_tokens.specs.Counting.{times, leads}
-use Rattle.sv_tokens.specs.Token.{Name, named, Element, Token, Open, Text, Anchor, Close, begins, closes, IsSpan, one_text, one_anchor, whole}
+use Rattle.sv_tokens.specs.Counting.{times, one, leads}
+use Rattle.sv_tokens.specs.Token.{Name, named, Element, Token, Open, Text, Anchor, Close, begins, closes, parent_of, parent_at, IsSpan, one_text, one_anchor, whole}
 use Rattle.sv_tokens.specs.Edit.{spot, Moved}
 use Rattle.sv_tokens.specs.Seen.{Seen, seen}
 use Rattle.sv_tokens.proofs.Counting.{times-append}
@@ -104,3 +105,16 @@ seen-Moved q old new key parent before m =
     let w = times-append q (seen m.pre) (seen m.post) in
     let t = times-append q (seen m.front) (seen m.back) in
     omega (arith, x, y, z, u, v, w, t)
+
+-- the name of a node's parent is read where the node begins
+pub parent-here : (key : ℕ) (pre post : List Token) (t : Token) → begins key t ≡ true → times (begins key) (pre ++ (t ∷ post)) ≤ 1 → parent_at key (pre ++ (t ∷ post)) ≡ parent_of t
+parent-here key [] post t e once = ap (λ z. if z then parent_of t else parent_at key post) e
+parent-here key (s ∷ pre) post t e once = go (begins key s) refl (parent-here key pre post t e (omega (arith, once)))
+  where
+    go : (v : Bool) → begins key s ≡ v → parent_at key (pre ++ (t ∷ post)) ≡ parent_of t → parent_at key (s ∷ (pre ++ (t ∷ post))) ≡ parent_of t
+    go false other rest = ap (λ z. if z then parent_of s else parent_at key (pre ++ (t ∷ post))) other ∙ rest
+    go true here rest =
+        let w = ap one here in
+        let v = ap one e in
+        let all = times-append (begins key) pre (t ∷ post) in
+        absurd (omega (arith, w, v, all, once))
