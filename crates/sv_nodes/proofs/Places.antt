@@ -1,6 +1,6 @@
 -- A place for a new node, seen in the slab.
 use Rattle.std.proofs.Common.{◌≡◌, ◌≢◌, ◌≤◌, ◌==◌, ◌^◌, ℕ, List, Bool, true, false, Option, Some, None, refl, ap, sym, ◌∙◌, arith, subst}
-use Rattle.std.specs.Prelude.{option_map, IsSomeAnd, ◌&&◌}
+use Rattle.std.specs.Prelude.{option_map, IsSome, IsSomeAnd, ◌&&◌}
 use Rattle.std.proofs.lemmas.Bool.{eqb-true}
 use Rattle.slab.specs.Slab.{Slab, get}
 use Rattle.sv_tokens.specs.Counting.{one, times, Has}
@@ -11,7 +11,7 @@ use Rattle.sv_nodes.specs.Sound.{IsAmong, IsAt, IsSound}
 use Rattle.sv_nodes.specs.Cells.{cell_of, nodes_of}
 use Rattle.sv_nodes.specs.declared.entry.Entry.{Entry}
 use Rattle.sv_nodes.proofs.Around.{around, has-begins, passes_here, opens-narrows, Narrows}
-use Rattle.sv_nodes.proofs.Slabs.{cells_of-at, at_node}
+use Rattle.sv_nodes.proofs.Slabs.{cells_of-at, at_node, stands-live}
 use Rattle.sv_nodes.proofs.Walk.{begins-own}
 
 pub weight-most : (w : Kind) → weight w ≤ 1
@@ -107,13 +107,19 @@ both-in None key before cell e among place = absurd (no e)
 both-in (Some entry) key before cell e among place = subst (λ (c : Cell). IsAmong key c.children × IsAt before c.children) (some (sym e)) (among, place)
 
 -- a node and a place beside it, seen in the slab
-pub beside-live : (slab : Slab Entry) (next key : ℕ) (before : Option ℕ) (entry : Entry) → IsSound (nodes_of slab.slots) next → get slab key ≡ Some entry → key ≢ 0 → IsBeside (tokens_of (nodes_of slab.slots)) key before
+pub beside-live : (slab : Slab Entry) (next key : ℕ) (before : Option ℕ) → IsSound (nodes_of slab.slots) next → Has (begins key) (tokens_of (nodes_of slab.slots)) → key ≢ 0 → IsBeside (tokens_of (nodes_of slab.slots)) key before
     → IsSomeAnd (get slab key) (λ e. IsSomeAnd (get slab e.parent) (λ above. IsAmong key above.children.items × IsAt before above.children.items))
-beside-live slab next key before entry sound at below place =
-    let here = at_node slab key entry at in
-    let link = sound.linked key (cell_of entry) here below in
-    let both = both-in (get slab entry.parent) key before link.cell (sym (cells_of-at slab.slots entry.parent) ∙ link.at) link.among (among-beside (nodes_of slab.slots) next key before (cell_of entry) link.cell sound place here link.at) in
-    rw at both
+beside-live slab next key before sound has below place = go (get slab key) refl (stands-live slab next key sound has)
+  where
+    no : false ≡ true → ⊥
+    no e = cc
+
+    go : (o : Option Entry) → get slab key ≡ o → IsSome o → IsSomeAnd o (λ e. IsSomeAnd (get slab e.parent) (λ above. IsAmong key above.children.items × IsAt before above.children.items))
+    go None at live = absurd (no live)
+    go (Some entry) at live =
+        let here = at_node slab key entry at in
+        let link = sound.linked key (cell_of entry) here below in
+        both-in (get slab entry.parent) key before link.cell (sym (cells_of-at slab.slots entry.parent) ∙ link.at) link.among (among-beside (nodes_of slab.slots) next key before (cell_of entry) link.cell sound place here link.at)
 
 -- the place is before another node
 pub beside-other : (tokens : List Token) (key : ℕ) (before : Option ℕ) → IsBeside tokens key before → before ≢ Some key
