@@ -353,13 +353,12 @@ impl Made {
 fn relocation_of(entry: &Entry, followers: Followers) -> Option<Change>
     ensures { result ≡ relocation (cell_of entry.now) followers.earlier followers.later }
 {
+    let serial = entry.serial;
+    let before = followers.later;
     match entry.content {
         Content::Anchor => None,
-        _ if followers.earlier == followers.later => None,
-        _ => Some(Change::Move {
-            serial: entry.serial,
-            before: followers.later,
-        }),
+        _ if followers.earlier == before => None,
+        _ => Some(Change::Move { serial, before }),
     }
 }
 

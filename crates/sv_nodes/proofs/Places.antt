@@ -96,7 +96,11 @@ parent-cell at next k c sound here =
 among-beside : (at : Nodes) (next key : ℕ) (before : Option ℕ) (cell above : Cell) → IsSound at next → IsBeside (tokens_of at) key before → at key ≡ Some cell → at cell.parent.key ≡ Some above → IsAt before above.children
 among-beside at next key None cell above sound place here holder = tt
 among-beside at next key (Some x) cell above sound place here holder =
-    among-child at next cell.parent.key x above sound (subst (λ (z : Name). Has (is_child z.key x) (tokens_of at)) (parent-cell at next key cell sound here) place.0) place.1 holder
+    let narrow = child-narrows place.0 key in
+    let a = around at next key sound (has-begins key (is_child place.0 key) (tokens_of at) narrow place.1) in
+    let its = child_parent place.0 key (name_of key a.cell) a.cell.parent a.cell.number a.cell.kind (passes_here at next key (is_child place.0 key) sound narrow a place.1) in
+    let same : cell.parent.key ≡ place.0 = ap (λ (c : Cell). c.parent.key) (some (sym here ∙ a.here)) ∙ its in
+    among-child at next cell.parent.key x above sound (subst (λ p. Has (is_child p x) (tokens_of at)) (sym same) place.2) place.3 holder
 
 both-in : (o : Option Entry) (key : ℕ) (before : Option ℕ) (cell : Cell) → option_map cell_of o ≡ Some cell → IsAmong key cell.children → IsAt before cell.children
     → IsSomeAnd o (λ above. IsAmong key above.children.items × IsAt before above.children.items)
@@ -127,7 +131,7 @@ beside-other tokens key None place e = absurd (no e)
   where
     no : {x : ℕ} → None ≡ Some x → ⊥
     no e = cc
-beside-other tokens key (Some x) place e = place.2 (same e)
+beside-other tokens key (Some x) place e = place.4 (same e)
   where
     same : {x y : ℕ} → Some x ≡ Some y → x ≡ y
     same e = cc

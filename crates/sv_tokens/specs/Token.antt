@@ -141,7 +141,7 @@ abbrev pub IsPlace : List Token → (parent : ℕ) (before : Option ℕ) → Typ
 IsPlace tokens parent None = Has (opens parent) tokens
 IsPlace tokens parent (Some before) = Has (opens parent) tokens × Has (is_child parent before) tokens × (before ≢ 0)
 
--- the place before another child of the node's own parent, or at that one's end
+-- the place before another child of the node's parent, or at that one's end
 abbrev pub IsBeside : List Token → (node : ℕ) (before : Option ℕ) → Type 0
 IsBeside tokens node None = Unit {0}
-IsBeside tokens node (Some before) = Has (is_child (parent_at node tokens).key before) tokens × (before ≢ 0) × (before ≢ node)
+IsBeside tokens node (Some before) = (parent : ℕ) × Has (is_child parent node) tokens × Has (is_child parent before) tokens × (before ≢ 0) × (before ≢ node)

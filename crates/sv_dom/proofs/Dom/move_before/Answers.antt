@@ -1,4 +1,4 @@
-use Rattle.std.proofs.Common.{◌≡◌, sym, subst, Option, ℕ}
+use Rattle.std.proofs.Common.{◌≡◌, ap, sym, subst, Option, ℕ}
 use Rattle.std.specs.Prelude.{IfSome, IsNone, ◌↔◌}
 use Rattle.sv_tokens.specs.Counting.{Has}
 use Rattle.sv_tokens.specs.Token.{Page, begins, name_at, parent_at, IsBeside}
@@ -27,49 +27,30 @@ pub invariant_of-self : goal.invariant_of-self
 invariant_of-self c =
     moved-dom (nodes_of c.self.inside.nodes.slots) (nodes_of c.move_node-followers.new.nodes.slots) c.self.inside.next c.self.inside.number c.args.node.0 c.key_of-before.result c.move_node-followers.result c.self.invariant c.requires.below c.move_node-followers.ensures
 
-pub returns-clause-tokens : goal.returns-clause-tokens
-returns-clause-tokens c =
-    let p = c.args.node.0 in
-    let at' = nodes_of c.move_node-followers.new.nodes.slots in
-    subst (λ (z : Page). Moved z.tokens (tokens_of at') p (parent_at p z.tokens).key (key_in c.args.before)) c.self.view_is
-    (subst (λ (b : Option ℕ). Moved (tokens_of (nodes_of c.self.inside.nodes.slots)) (tokens_of at') p (parent_at p (tokens_of (nodes_of c.self.inside.nodes.slots))).key b) c.key_of-before.ensures
-    (moved-tokens (nodes_of c.self.inside.nodes.slots) at' c.self.inside.next c.self.inside.number p c.key_of-before.result c.move_node-followers.result c.self.invariant c.requires.below c.move_node-followers.ensures))
-
-pub returns-clause-told : goal.returns-clause-told
-returns-clause-told c =
+pub returns : goal.returns
+returns c =
     let p = c.args.node.0 in
     let at = nodes_of c.self.inside.nodes.slots in
     let at' = nodes_of c.move_node-followers.new.nodes.slots in
+    let next = c.self.inside.next in
+    let number = c.self.inside.number in
+    let before = c.key_of-before.result in
     let followers = c.move_node-followers.result in
+    let answer = c.relocation_of.result in
     let moves = c.move_node-followers.ensures in
-    let told = told-is at at' c.self.inside.next c.self.inside.number p c.key_of-before.result followers c.self.invariant c.requires.below moves (cell_of c.entry_at.result.now) c.relocation_of.result
-    (at_node c.move_node-followers.new.nodes p c.entry_at.result.now c.entry_at.ensures) c.relocation_of.ensures in
-    let outcome = moved-outcome at at' c.self.inside.next c.self.inside.number p c.key_of-before.result followers c.self.invariant c.requires.below moves in
-    subst (λ (z : Page). view_of (page_of at' c.self.inside.next c.self.inside.number) ≡ replay_if c.relocation_of.result (view_of z)) c.self.view_is
-    (outcome-told at at' c.self.inside.next c.self.inside.number p moves.cell followers c.relocation_of.result told outcome)
-
-pub returns-clause-none : goal.returns-clause-none
-returns-clause-none c =
-    let p = c.args.node.0 in
-    let at = nodes_of c.self.inside.nodes.slots in
-    let at' = nodes_of c.move_node-followers.new.nodes.slots in
-    let followers = c.move_node-followers.result in
-    let moves = c.move_node-followers.ensures in
-    let told = told-is at at' c.self.inside.next c.self.inside.number p c.key_of-before.result followers c.self.invariant c.requires.below moves (cell_of c.entry_at.result.now) c.relocation_of.result
-    (at_node c.move_node-followers.new.nodes p c.entry_at.result.now c.entry_at.ensures) c.relocation_of.ensures in
-    let outcome = moved-outcome at at' c.self.inside.next c.self.inside.number p c.key_of-before.result followers c.self.invariant c.requires.below moves in
-    subst (λ (z : Page). IsNone c.relocation_of.result ↔ (view_of (page_of at' c.self.inside.next c.self.inside.number) ≡ view_of z)) c.self.view_is
-    (outcome-none at at' c.self.inside.next c.self.inside.number p moves.cell followers c.relocation_of.result told outcome)
-
-pub returns-clause-some : goal.returns-clause-some
-returns-clause-some c =
-    let p = c.args.node.0 in
-    let at = nodes_of c.self.inside.nodes.slots in
-    let at' = nodes_of c.move_node-followers.new.nodes.slots in
-    let followers = c.move_node-followers.result in
-    let moves = c.move_node-followers.ensures in
-    let told = told-is at at' c.self.inside.next c.self.inside.number p c.key_of-before.result followers c.self.invariant c.requires.below moves (cell_of c.entry_at.result.now) c.relocation_of.result
-    (at_node c.move_node-followers.new.nodes p c.entry_at.result.now c.entry_at.ensures) c.relocation_of.ensures in
-    let outcome = moved-outcome at at' c.self.inside.next c.self.inside.number p c.key_of-before.result followers c.self.invariant c.requires.below moves in
-    subst (λ (z : Page). IfSome c.relocation_of.result (λ change. (place : ℕ) × (change ≡ Move (name_at p z.tokens).serial place))) c.self.view_is
-    (outcome-some at at' c.self.inside.next c.self.inside.number p moves.cell followers c.relocation_of.result told outcome)
+    let here = at_node c.move_node-followers.new.nodes p c.entry_at.result.now c.entry_at.ensures in
+    let told = told-is at at' next number p before followers c.self.invariant c.requires.below moves (cell_of c.entry_at.result.now) answer here c.relocation_of.ensures in
+    let outcome = moved-outcome at at' next number p before followers c.self.invariant c.requires.below moves in
+    record {
+      tokens = subst (λ (z : Page). Moved z.tokens (tokens_of at') p (parent_at p z.tokens).key (key_in c.args.before)) c.self.view_is
+          (subst (λ (b : Option ℕ). Moved (tokens_of at) (tokens_of at') p (parent_at p (tokens_of at)).key b) c.key_of-before.ensures
+          (moved-tokens at at' next number p before followers c.self.invariant c.requires.below moves));
+      next = ap (λ (z : Page). z.next) c.self.view_is;
+      number = ap (λ (z : Page). z.number) c.self.view_is;
+      told = subst (λ (z : Page). view_of (page_of at' next number) ≡ replay_if answer (view_of z)) c.self.view_is
+          (outcome-told at at' next number p moves.cell followers answer told outcome);
+      none = subst (λ (z : Page). IsNone answer ↔ (view_of (page_of at' next number) ≡ view_of z)) c.self.view_is
+          (outcome-none at at' next number p moves.cell followers answer told outcome);
+      some = subst (λ (z : Page). IfSome answer (λ change. (place : ℕ) × (change ≡ Move (name_at p z.tokens).serial place))) c.self.view_is
+          (outcome-some at at' next number p moves.cell followers answer told outcome);
+    }
