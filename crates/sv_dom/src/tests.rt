@@ -82,18 +82,18 @@ fn what_is_so_already_is_not_told(rt: HostRuntime) -> Result<(), Fail> {
     let (node, made) = dom.make_element(dom.page(), None, name)?;
     drop(made);
     for first in [true, false] {
-        let told = dom.set_typed(node, Some(Typed::Checked(true)))?;
-        assert_eq!(rt; told.is_some(), first);
-        drop(told);
+        let typed = dom.set_typed(node, Some(Typed::Checked(true)))?;
+        assert_eq!(rt; typed.is_some(), first);
+        drop(typed);
         let name = Text::new(rt.alloc(), "open")?;
-        let told = dom.set_attr(node, 3, name, Attr::Flag)?;
-        assert_eq!(rt; told.is_some(), first);
-        drop(told);
+        let shown = dom.set_attr(node, 3, name, Attr::Flag)?;
+        assert_eq!(rt; shown.is_some(), first);
+        drop(shown);
     }
     for first in [true, false] {
-        let told = dom.drop_attr(node, 3);
-        assert_eq!(rt; told.is_some(), first);
-        drop(told);
+        let dropped = dom.drop_attr(node, 3);
+        assert_eq!(rt; dropped.is_some(), first);
+        drop(dropped);
     }
     Ok(())
 }
