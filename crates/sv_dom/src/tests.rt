@@ -60,10 +60,12 @@ fn a_move_is_told_where_it_is_seen(rt: HostRuntime) -> Result<(), Fail> {
 
 fn is_move(told: &Option<Change>, serial: u64, before: u64) -> bool {
     match told {
-        Some(Change::Move {
-            serial: moved,
-            before: next,
-        }) => *moved == serial && *next == before,
+        Some(
+            Change::Move {
+                serial: moved,
+                before: next,
+            },
+        ) => *moved == serial && *next == before,
         _ => false,
     }
 }

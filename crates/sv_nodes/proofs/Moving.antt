@@ -1,8 +1,8 @@
 -- A node that is put elsewhere among the children of its parent is its tokens at another place.
-use Rattle.std.proofs.Common.{◌≡◌, ◌≢◌, ◌<◌, ◌≤◌, ◌+◌, ℕ, zero, suc, List, [], ◌∷◌, ◌++◌, true, false, Option, Some, refl, ap, sym, ◌∙◌, arith, ◌⊎◌, inl, inr, subst, append_assoc, append-nil}
+use Rattle.std.proofs.Common.{◌≡◌, ◌≢◌, ◌≤◌, ℕ, zero, suc, List, [], ◌∷◌, ◌++◌, true, Option, Some, refl, ap, sym, ◌∙◌, arith, ◌⊎◌, inl, inr, subst, append_assoc, append-nil}
 use Rattle.std.proofs.lemmas.Bool.{cases_eq}
-use Rattle.sv_tokens.specs.Counting.{times, Has, leads}
-use Rattle.sv_tokens.specs.Token.{Name, Element, Token, Close, begins, closes, IsSpan}
+use Rattle.sv_tokens.specs.Counting.{times, leads}
+use Rattle.sv_tokens.specs.Token.{Name, Element, Token, Close, begins}
 use Rattle.sv_tokens.specs.Edit.{spot, Moved}
 use Rattle.sv_tokens.specs.Seen.{seen, follows}
 use Rattle.sv_tokens.proofs.Counting.{times-append}
@@ -13,8 +13,8 @@ use Rattle.sv_nodes.specs.Moves.{Moves}
 use Rattle.sv_nodes.specs.declared.shift.Followers.{Followers}
 use Rattle.sv_nodes.proofs.Walk.{Within, agree, walk-append, within-left, within-right, fewer-closes}
 use Rattle.sv_nodes.proofs.Around.{Around, around}
-use Rattle.sv_nodes.proofs.Growing.{some, none_some, spot-of, spot-once, among-append, among-left, among-right, among-grown, parts-grown}
-use Rattle.sv_nodes.proofs.Shrinking.{part-among, parts-cut}
+use Rattle.sv_nodes.proofs.Growing.{some, spot-of, spot-once, among-append, among-left, among-right, among-grown, parts-grown}
+use Rattle.sv_nodes.proofs.Shrinking.{parts-cut}
 use Rattle.sv_nodes.proofs.Removing.{span-cell}
 use Rattle.sv_nodes.proofs.Shifting.{Sides, sides}
 use Rattle.sv_nodes.proofs.Shown.{leads-shown}

@@ -1,19 +1,19 @@
 -- A child goes elsewhere among the children of its parent, in the slab.
-use Rattle.std.proofs.Common.{◌≡◌, ◌≢◌, ◌≤◌, ◌<◌, ◌+◌, ℕ, zero, suc, List, [], ◌∷◌, ◌++◌, Option, Some, None, refl, ap, sym, ◌∙◌, arith, ◌⊎◌, inl, inr, subst, length, drop}
+use Rattle.std.proofs.Common.{◌≡◌, ◌≢◌, ◌≤◌, ◌+◌, ℕ, zero, suc, List, [], ◌∷◌, ◌++◌, Option, Some, None, refl, ap, sym, ◌∙◌, arith, ◌⊎◌, inl, inr, subst, length, drop}
 use Rattle.std.specs.Prelude.{IsSomeAnd, insert, remove}
 use Rattle.std.proofs.lemmas.Bool.{cases_eq}
 use Rattle.slab.specs.Slab.{Slab, get, with_value}
 use Rattle.slab.proofs.SlabLemmas.{Updates-with_value}
 use Rattle.sv_nodes.specs.Nodes.{Cell, Nodes, with_children, first_shown, shown_or}
 use Rattle.sv_nodes.specs.Sound.{IsAmong, IsAt}
-use Rattle.sv_nodes.specs.Steps.{IsBack, IsStart, Cuts, Grows, Reorders}
+use Rattle.sv_nodes.specs.Steps.{IsBack, IsStart, Reorders}
 use Rattle.sv_nodes.specs.Moves.{Moves}
 use Rattle.sv_nodes.specs.Cells.{cell_of, nodes_of}
 use Rattle.sv_nodes.specs.declared.entry.Entry.{Entry}
 use Rattle.sv_nodes.specs.declared.shift.Followers.{Followers}
 use Rattle.sv_nodes.proofs.Siblings.{grows-at, cuts-at, cuts-behind}
 use Rattle.sv_nodes.proofs.Shrinking.{among-cut}
-use Rattle.sv_nodes.proofs.Slabs.{Changes, changes-write, at_node}
+use Rattle.sv_nodes.proofs.Slabs.{changes-write, at_node}
 
 drop-insert : (key : ℕ) (ks : List ℕ) (n : ℕ) → n ≤ length ks → drop (suc n) (insert ks n key) ≡ drop n ks
 drop-insert key [] zero inside = refl

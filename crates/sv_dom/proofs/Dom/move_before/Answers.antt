@@ -5,7 +5,6 @@ use Rattle.sv_tokens.specs.Token.{Page, begins, name_at, parent_at, IsBeside}
 use Rattle.sv_tokens.specs.Edit.{Moved}
 use Rattle.sv_tokens.specs.Seen.{view_of}
 use Rattle.sv_tokens.specs.Replay.{replay_if}
-use Rattle.sv_tokens.specs.declared.change.Change.{Change}
 use Rattle.sv_tokens.specs.declared.change.Change.TheVariants.{Move}
 use Rattle.sv_nodes.specs.Nodes.{tokens_of}
 use Rattle.sv_nodes.specs.Cells.{cell_of, nodes_of}

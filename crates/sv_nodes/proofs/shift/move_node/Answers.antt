@@ -1,9 +1,6 @@
-use Rattle.std.proofs.Common.{◌≡◌, ◌≤◌, ◌+◌, ◌∙◌, sym, ap, arith, ℕ, suc, Some, length, drop}
-use Rattle.std.specs.Prelude.{IsSomeAnd, remove}
+use Rattle.std.proofs.Common.{◌≡◌, ◌+◌, ◌∙◌, sym, ap, arith, ℕ, suc, Some, drop}
 use Rattle.slab.specs.Slab.{get}
 use Rattle.sv_nodes.specs.Nodes.{first_shown}
-use Rattle.sv_nodes.specs.Sound.{IsAmong, IsAt}
-use Rattle.sv_nodes.specs.Steps.{IsStart}
 use Rattle.sv_nodes.specs.Cells.{nodes_of}
 use Rattle.sv_nodes.specs.declared.entry.Entry.{Entry}
 use Rattle.sv_nodes.proofs.Slabs.{there, some_and}
