@@ -1,7 +1,8 @@
 pub mod Counting
 pub mod Splits
+pub mod Moving
 pub mod Seen
 pub mod Replay
+pub mod Children
 pub mod Examples
 pub mod Standing
-pub mod Moving

@@ -2,7 +2,7 @@
 use Rattle.std.proofs.Common.{◌≡◌, ◌≤◌, ℕ, List, [], ◌∷◌, ◌++◌, Bool, true, false, Option, refl, ap, sym, ◌∙◌, arith, subst, append_assoc}
 use Rattle.std.specs.Prelude.{if◌then◌else◌}
 use Rattle.std.proofs.lemmas.Bool.{eq-eqb}
-use Rattle.sv_tokens.specs.Counting.{times, one, leads}
+use Rattle.sv_tokens.specs.Counting.{times, one, Has, leads}
 use Rattle.sv_tokens.specs.Token.{Name, named, Element, Token, Open, Text, Anchor, Close, begins, closes, parent_of, parent_at, IsSpan, one_text, one_anchor, whole}
 use Rattle.sv_tokens.specs.Edit.{spot, Moved}
 use Rattle.sv_tokens.specs.Seen.{Seen, seen}
@@ -93,6 +93,10 @@ times-Moved q old new key parent before m =
     let w = times-append q m.pre m.post in
     let t = times-append q m.front m.back in
     omega (arith, x, y, z, u, v, w, t)
+
+-- what stood stands where a node was moved
+pub Has-Moved : (q : Token → Bool) (old new : List Token) (key parent : ℕ) (before : Option ℕ) → Moved old new key parent before → Has q old → Has q new
+Has-Moved q old new key parent before m has = let n = times-Moved q old new key parent before m in omega (arith, n, has)
 
 -- the same of what is seen
 pub seen-Moved : (q : Seen → Bool) (old new : List Token) (key parent : ℕ) (before : Option ℕ) → Moved old new key parent before → times q (seen new) ≡ times q (seen old)

@@ -1,14 +1,12 @@
 -- What stands on a page after an edit.
-use Rattle.std.proofs.Common.{◌≡◌, ◌≢◌, ◌≤◌, ◌+◌, ℕ, List, [], ◌∷◌, ◌++◌, Bool, true, false, Option, None, refl, ap, ◌∙◌, arith}
-use Rattle.std.specs.Prelude.{if◌then◌else◌, ◌==◌, ◌&&◌}
-use Rattle.std.proofs.lemmas.Bool.{eq-eqb, eqb-true, and_from}
+use Rattle.std.proofs.Common.{◌≡◌, ◌≢◌, ◌≤◌, ◌+◌, ℕ, List, [], ◌∷◌, ◌++◌, Bool, Option, None, refl, ap, ◌∙◌, arith}
+use Rattle.std.proofs.lemmas.Bool.{eq-eqb}
 use Rattle.sv_tokens.specs.Counting.{times, one, Has}
-use Rattle.sv_tokens.specs.Token.{Name, named, Element, Token, Open, Text, Anchor, Close, Page, begins, opens, texts, is_child, node_of, name_at}
-use Rattle.sv_tokens.specs.Edit.{Rewritten, Inserted, Moved, with_element, with_text}
+use Rattle.sv_tokens.specs.Token.{Name, named, Element, Token, Open, Text, Anchor, Close, Page, begins, opens, texts}
+use Rattle.sv_tokens.specs.Edit.{Rewritten, Inserted, with_element, with_text}
 use Rattle.sv_tokens.specs.Replay.{element_tokens, Gains, Edits}
 use Rattle.sv_tokens.specs.declared.change.Change.{Change}
 use Rattle.sv_tokens.proofs.Counting.{times-append, times-narrow}
-use Rattle.sv_tokens.proofs.Moving.{times-Moved}
 
 -- how often a test passes where tokens came
 pub times-Inserted : (q : Token → Bool) (old new : List Token) (parent : ℕ) (before : Option ℕ) (own : List Token) → Inserted old new parent before own → times q new ≡ times q old + times q own
@@ -44,7 +42,7 @@ texts-Gains old new parent before key serial above bytes g =
     let w = ap one (eq-eqb key key refl) in
     omega (arith, n, w)
 
-opens-begins : (key : ℕ) (t : Token) → one (opens key t) ≤ one (begins key t)
+pub opens-begins : (key : ℕ) (t : Token) → one (opens key t) ≤ one (begins key t)
 opens-begins key (Open n p number e) = omega arith
 opens-begins key (Text n p number bytes) = omega arith
 opens-begins key (Anchor n p) = omega arith
@@ -76,67 +74,3 @@ opens-Edits old new key k f told e has = let n = times-Rewritten (opens k) old.t
 -- a text still stands where one was edited
 pub texts-Edits : (old new : Page) (key k : ℕ) (bytes : List ℕ) (told : Option Change) → Edits old new key (with_text bytes) told → Has (texts k) old.tokens → Has (texts k) new.tokens
 texts-Edits old new key k bytes told e has = let n = times-Rewritten (texts k) old.tokens new.tokens key (with_text bytes) (texts-with_text k bytes) e.tokens in omega (arith, n, has)
-
--- what stood stands where a node was moved
-pub Has-Moved : (q : Token → Bool) (old new : List Token) (key parent : ℕ) (before : Option ℕ) → Moved old new key parent before → Has q old → Has q new
-Has-Moved q old new key parent before m has = let n = times-Moved q old new key parent before m in omega (arith, n, has)
-
--- an element stands
-pub opens-stands : (key : ℕ) (ts : List Token) → Has (opens key) ts → Has (begins key) ts
-opens-stands key ts has = let less = times-narrow (begins key) (opens key) (opens-begins key) ts in omega (arith, less, has)
-
-child-begins : (parent key : ℕ) (t : Token) → one (is_child parent key t) ≤ one (begins key t)
-child-begins parent key (Open n p number e) = less (n.key == key) (p.key == parent)
-  where
-    less : (a b : Bool) → one (a && b) ≤ one a
-    less true true = omega arith
-    less true false = omega arith
-    less false b = omega arith
-child-begins parent key (Text n p number bytes) = less (n.key == key) (p.key == parent)
-  where
-    less : (a b : Bool) → one (a && b) ≤ one a
-    less true true = omega arith
-    less true false = omega arith
-    less false b = omega arith
-child-begins parent key (Anchor n p) = less (n == key) (p.key == parent)
-  where
-    less : (a b : Bool) → one (a && b) ≤ one a
-    less true true = omega arith
-    less true false = omega arith
-    less false b = omega arith
-child-begins parent key (Close n name) = omega arith
-
--- a child stands
-pub child-stands : (parent key : ℕ) (ts : List Token) → Has (is_child parent key) ts → Has (begins key) ts
-child-stands parent key ts has = let less = times-narrow (begins key) (is_child parent key) (child-begins parent key) ts in omega (arith, less, has)
-
--- the name of the node at a key has that key
-pub name_at-key : (key : ℕ) (ts : List Token) → (name_at key ts).key ≡ key
-name_at-key key [] = refl
-name_at-key key (t ∷ ts) = go (begins key t) refl (name_at-key key ts)
-  where
-    here : (t : Token) → begins key t ≡ true → (node_of t).key ≡ key
-    here (Open n p number e) h = eqb-true n.key key h
-    here (Text n p number bytes) h = eqb-true n.key key h
-    here (Anchor n p) h = eqb-true n key h
-    here (Close n name) h = absurd (no h)
-      where
-        no : false ≡ true → ⊥
-        no e = cc
-
-    go : (v : Bool) → begins key t ≡ v → (name_at key ts).key ≡ key → (name_at key (t ∷ ts)).key ≡ key
-    go true e rest = ap (λ z. (if z then node_of t else name_at key ts).key) e ∙ here t e
-    go false e rest = ap (λ z. (if z then node_of t else name_at key ts).key) e ∙ rest
-
--- a new text is a child of its parent
-pub child-text-Gains : (old new : Page) (parent : ℕ) (before : Option ℕ) (key serial : ℕ) (bytes : List ℕ) → Gains old new parent before key (Text (named key serial) (name_at parent old.tokens) None bytes ∷ []) → Has (is_child parent key) new.tokens
-child-text-Gains old new parent before key serial bytes g =
-    let n = times-Inserted (is_child parent key) old.tokens new.tokens parent before (Text (named key serial) (name_at parent old.tokens) None bytes ∷ []) g.tokens in
-    let w = ap one (and_from (key == key) ((name_at parent old.tokens).key == parent) (eq-eqb key key refl) (eq-eqb (name_at parent old.tokens).key parent (name_at-key parent old.tokens))) in
-    omega (arith, n, w)
-
--- a new node has a key that no node has
-pub other-Gains : (old new : Page) (parent : ℕ) (before : Option ℕ) (key other : ℕ) (own : List Token) → Gains old new parent before key own → Has (begins other) old.tokens → key ≢ other
-other-Gains old new parent before key other own g has e =
-    let same = ap (λ k. times (begins k) old.tokens) e in
-    omega (arith, same, g.fresh, has)

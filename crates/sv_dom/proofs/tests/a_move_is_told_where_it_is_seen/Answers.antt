@@ -1,7 +1,9 @@
 use Rattle.std.proofs.Common.{sym, subst}
 use Rattle.sv_tokens.specs.Counting.{Has}
 use Rattle.sv_tokens.specs.Token.{begins, is_child}
-use Rattle.sv_tokens.proofs.Standing.{Has-Gains, Has-Moved, key-Gains, other-Gains, child-text-Gains, child-stands}
+use Rattle.sv_tokens.proofs.Children.{other-Gains, child-text-Gains, child-stands}
+use Rattle.sv_tokens.proofs.Moving.{Has-Moved}
+use Rattle.sv_tokens.proofs.Standing.{Has-Gains, key-Gains}
 use Rattle.sv_dom.proofs.tests.a_move_is_told_where_it_is_seen.Goals as goal
 
 pub move_before-nowhere-requires-clause-stands : goal.move_before-nowhere-requires-clause-stands

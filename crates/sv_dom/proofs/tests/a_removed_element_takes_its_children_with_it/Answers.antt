@@ -1,5 +1,6 @@
 use Rattle.sv_tokens.specs.Token.{opens}
-use Rattle.sv_tokens.proofs.Standing.{Has-Gains, opens-Gains, opens-Edits, opens-stands, key-Gains}
+use Rattle.sv_tokens.proofs.Children.{opens-stands}
+use Rattle.sv_tokens.proofs.Standing.{Has-Gains, opens-Gains, opens-Edits, key-Gains}
 use Rattle.sv_dom.proofs.tests.a_removed_element_takes_its_children_with_it.Goals as goal
 
 pub make_element-requires-2 : goal.make_element-requires-2
