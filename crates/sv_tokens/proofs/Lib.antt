@@ -4,3 +4,4 @@ pub mod Seen
 pub mod Replay
 pub mod Examples
 pub mod Standing
+pub mod Numbering
