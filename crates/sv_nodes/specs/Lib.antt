@@ -3,3 +3,4 @@ pub mod Sound
 pub mod Steps
 pub mod Cells
 pub mod Made
+pub mod Numbers

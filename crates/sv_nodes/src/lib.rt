@@ -7,6 +7,7 @@ mod edit;
 mod entry;
 mod find;
 mod grow;
+mod number;
 mod same;
 mod shrink;
 
@@ -14,5 +15,6 @@ pub use edit::{write_attribute, write_dropped, write_text, write_typed};
 pub use entry::{Content, Element, Entry, entry_at};
 pub use find::{find_in, follower};
 pub use grow::{Made, make_node};
+pub use number::number_in;
 pub use same::{has_attribute, has_no_slot, has_text, has_typed};
 pub use shrink::remove_in;
