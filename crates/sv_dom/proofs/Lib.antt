@@ -3,3 +3,4 @@ pub mod Making
 pub mod Removal
 pub mod NodeKinds
 pub mod Starting
+pub mod Numbering
