@@ -49,7 +49,10 @@ fn input(
 fn attributes_stand_by_slot_and_are_escaped(rt: HostRuntime) -> Result<(), Fail> {
     let text = Text::new(rt.alloc(), "a<b>&\"")?;
     let page = input(rt.alloc(), None, Some(("value", Attr::Text(text))))?;
-    assert_eq!(rt; page.as_slice(), b"<input value=\"a<b>&amp;&quot;\" i>".as_slice());
+    assert_eq!(rt;
+        page.as_slice(),
+        b"<input value=\"a<b>&amp;&quot;\" i>".as_slice()
+    );
     Ok(())
 }
 
@@ -66,7 +69,10 @@ fn a_typed_text_stands_in_the_place_of_a_value(rt: HostRuntime) -> Result<(), Fa
 fn a_typed_text_stands_last_where_there_is_no_value(rt: HostRuntime) -> Result<(), Fail> {
     let typed = Typed::Text(Text::new(rt.alloc(), "\"b\"")?);
     let page = input(rt.alloc(), Some(typed), None)?;
-    assert_eq!(rt; page.as_slice(), b"<input i value=\"&quot;b&quot;\">".as_slice());
+    assert_eq!(rt;
+        page.as_slice(),
+        b"<input i value=\"&quot;b&quot;\">".as_slice()
+    );
     Ok(())
 }
 
@@ -79,7 +85,11 @@ fn a_box_that_was_checked_shows_so(rt: HostRuntime) -> Result<(), Fail> {
 
 #[test]
 fn a_box_that_was_unchecked_shows_so(rt: HostRuntime) -> Result<(), Fail> {
-    let page = input(rt.alloc(), Some(Typed::Checked(false)), Some(("checked", Attr::Flag)))?;
+    let page = input(
+        rt.alloc(),
+        Some(Typed::Checked(false)),
+        Some(("checked", Attr::Flag)),
+    )?;
     assert_eq!(rt; page.as_slice(), b"<input i>".as_slice());
     Ok(())
 }
@@ -91,16 +101,22 @@ fn a_printed_number_stays_with_its_node(rt: HostRuntime) -> Result<(), Fail> {
     let (node, made) = dom.make_element(dom.page(), None, name)?;
     drop(made);
     let text = Text::new(rt.alloc(), "a")?;
-    let (_, made) = dom.make_text(node, None, text)?;
+    let (node, made) = dom.make_text(node, None, text)?;
     drop(made);
     dom.number();
     let page = print(rt.alloc(), &dom, true)?;
     assert_eq!(rt; page.as_slice(), b"<p sv=\"1\"><!--2-->a</p>".as_slice());
+    let text = Text::new(rt.alloc(), "b")?;
+    let told = dom.set_text(node, text)?;
+    drop(told);
     let name = Text::new(rt.alloc(), "br")?;
     let (_, made) = dom.make_element(dom.page(), None, name)?;
     drop(made);
     dom.number();
     let page = print(rt.alloc(), &dom, true)?;
-    assert_eq!(rt; page.as_slice(), b"<p sv=\"1\"><!--2-->a</p><br sv=\"3\">".as_slice());
+    assert_eq!(rt;
+        page.as_slice(),
+        b"<p sv=\"1\"><!--2-->b</p><br sv=\"3\">".as_slice()
+    );
     Ok(())
 }

@@ -2,7 +2,7 @@
 use Rattle.std.proofs.Common.{◌≡◌, ◌+◌, ℕ, suc, List, [], ◌∷◌, ◌++◌, Bool, true, false, Some, None, refl, ap, sym, ◌∙◌, arith}
 use Rattle.std.specs.Prelude.{if◌then◌else◌}
 use Rattle.sv_tokens.specs.Counting.{one, times}
-use Rattle.sv_tokens.specs.Token.{Name, named, Token, Open, Text, Anchor, Close, lacks_number}
+use Rattle.sv_tokens.specs.Token.{named, Token, Open, Text, Anchor, Close, lacks_number}
 use Rattle.sv_tokens.specs.Seen.{seen, Start, Words, End}
 use Rattle.sv_tokens.specs.Numbering.{with_number, numbered}
 use Rattle.sv_tokens.specs.Replay.{bare}
