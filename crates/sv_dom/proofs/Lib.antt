@@ -4,3 +4,4 @@ pub mod Relocation
 pub mod Removal
 pub mod NodeKinds
 pub mod Starting
+pub mod Numbering

@@ -3,8 +3,9 @@
 #![tactic(auto)]
 
 ghost use Rattle.std.specs.Prelude.{◌≡◌, ◌≢◌, ◌+◌, ◌∷◌, ◌^◌, ◌<◌, [], IfOk, OnOk, OnErr, IsSome, IsNone, None, ◌↔◌, ℕ, IfSome};
-ghost use Rattle.sv_tokens.specs.Counting.{Has};
-ghost use Rattle.sv_tokens.specs.Token.{named, Text as text_token, Anchor as anchor_token, opens, texts, anchors, begins, identifies, first_key, name_at, parent_at, IsPlace, IsBeside};
+ghost use Rattle.sv_tokens.specs.Counting.{times, Has};
+ghost use Rattle.sv_tokens.specs.Token.{named, Text as text_token, Anchor as anchor_token, opens, texts, anchors, begins, identifies, first_key, lacks_number, name_at, parent_at, IsPlace, IsBeside};
+ghost use Rattle.sv_tokens.specs.Numbering.{numbered};
 ghost use Rattle.sv_tokens.specs.Edit.{Moved, Removed, with_text, with_element, with_attribute, without_slot, with_typed};
 ghost use Rattle.sv_tokens.specs.Seen.{view_of};
 ghost use Rattle.sv_tokens.specs.Replay.{replay, replay_if, element_tokens, Gains, Edits};
@@ -21,8 +22,8 @@ use std::marker::Model;
 use sv_base::{NoMemory, Text};
 use sv_nodes::{
     Content, Element, Entry, Followers, entry_at, find_in, has_attribute, has_no_slot, has_text,
-    has_typed, make_node, move_node, remove_in, write_attribute, write_dropped, write_text,
-    write_typed,
+    has_typed, make_node, move_node, number_in, remove_in, write_attribute, write_dropped,
+    write_text, write_typed,
 };
 
 #[cfg(test)]
@@ -331,6 +332,18 @@ impl Dom {
         let told = removal_of(entry_at(&self.nodes, node.0 as usize));
         remove_in(&mut self.nodes, self.next, node.0);
         told
+    }
+
+    /// Gives each element and each text that has no printed number the next one, in document order, from 1. A
+    /// number stays with its node, and none is used again.
+    pub fn number(&mut self)
+        ensures tokens { self.new.tokens ≡ numbered self.old.number self.old.tokens }
+        ensures given { times lacks_number self.new.tokens ≡ 0 }
+        ensures number { self.new.number ≡ self.old.number + times lacks_number self.old.tokens }
+        ensures next { self.new.next ≡ self.old.next }
+        ensures seen { view_of self.new ≡ view_of self.old }
+    {
+        self.number = number_in(&mut self.nodes, self.next, 0, self.number);
     }
 }
 

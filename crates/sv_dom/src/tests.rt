@@ -29,6 +29,7 @@ fn an_element_shows_its_id(rt: HostRuntime) -> Result<(), Fail> {
     let id = Text::new(rt.alloc(), "x")?;
     let told = dom.set_attr(node, 3, name, Attr::Text(id))?;
     drop(told);
+    dom.number();
     assert_eq!(rt; dom.find_id("x"), Some(node));
     Ok(())
 }

@@ -13,3 +13,5 @@ pub mod Starting
 pub mod Finding
 pub mod Attributes
 pub mod Shown
+pub mod Numbering
+pub mod Numbered

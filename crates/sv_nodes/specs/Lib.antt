@@ -4,3 +4,4 @@ pub mod Steps
 pub mod Moves
 pub mod Cells
 pub mod Made
+pub mod Numbers

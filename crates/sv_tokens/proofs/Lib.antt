@@ -6,3 +6,4 @@ pub mod Replay
 pub mod Children
 pub mod Examples
 pub mod Standing
+pub mod Numbering
