@@ -301,9 +301,8 @@ impl Dom {
         find_in(&self.nodes, self.next, 0, id).map(Node)
     }
 
-    /// Moves a node with all below it before another child of its parent, or to that one's end. The change names
-    /// the next sibling that is no anchor. `None` exactly for an anchor and where the node, anchors aside, stands
-    /// there already.
+    /// Moves a node with all below it before another child of its parent, or to that one's end. `None` exactly
+    /// for an anchor and where the node, anchors aside, stands there already.
     pub fn move_before(&mut self, node: Node, before: Option<Node>) -> Option<Change>
         requires stands { Has (begins node.0) self.old.tokens }
         requires below { node.0 ≢ 0 }
