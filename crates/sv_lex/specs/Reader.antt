@@ -1,6 +1,7 @@
 -- What a parser reads from, and the steps that its rules are made of. A parser is a function on lists: it gives a tree and
 -- what is left, or the refusal. Want of memory is nowhere in it.
-use Rattle.std.specs.Prelude.{◌≡◌, ℕ, ◌+◌, ◌-◌, Bool, true, false, if◌then◌else◌, ◌==◌, List, ◌++◌, length, take, drop, Result, Ok, Err, refl}
+use Rattle.std.specs.Prelude.{◌≡◌, ℕ, ◌+◌, ◌-◌, Bool, true, false, if◌then◌else◌, ◌==◌, List, ◌++◌, length, take, drop, slice_get, Option, Some, None, Result, Ok, Err, refl}
+use Rattle.std.specs.Str.{bytes_eq}
 use Rattle.std.specs.Coded.{Coded, code_by, coded×, coded_ℕ, coded_list}
 use Rattle.sv_base.specs.declared.span.Span.{Span}
 use Rattle.sv_base.specs.declared.names.Name.{Name as NameNumber}
@@ -173,6 +174,10 @@ name_text z = take (name_len z) z
 unfoldable pub word : Parser Named
 word = λ i. word_of (name_text (skip i.text)) i
 
+-- the text of the word or name that comes next, which stays
+unfoldable pub word_text : Parser (List ℕ)
+word_text = λ i. if length (name_text (skip i.text)) == 0 then refuse Syntax i else Ok (name_text (skip i.text), i)
+
 -- the name that comes next
 unfoldable pub name : Parser Named
 name = λ i. if sees_one Name i then word i else refuse Syntax i
@@ -180,6 +185,14 @@ name = λ i. if sees_one Name i then word i else refuse Syntax i
 -- the name behind the `$` that comes next
 unfoldable pub store_name : Parser Named
 store_name = λ i. word_of (name_text (drop 1 (skip i.text))) i
+
+abbrev pub is_same_text : List ℕ → Option (List ℕ) → Bool
+is_same_text text None = false
+is_same_text text (Some found) = bytes_eq found text
+
+-- whether the name is that of a text
+unfoldable pub is_named : List ℕ → NameNumber → Input → Bool
+is_named text number i = is_same_text text (slice_get (names i) number.0)
 
 -- ---- what a function that parses ensures: the parser's outcome, unless memory fails
 

@@ -10,7 +10,7 @@ use crate::digits::{Base, number};
 use crate::front::{behind_first, byte};
 use crate::lexeme::Lexeme;
 use crate::look::{has_line_end, same_lexeme, skip};
-use crate::naming::{intern, name_text};
+use crate::naming::{intern, is_text_of, name_text};
 use crate::pieces::{Piece, rest};
 use crate::strings::Quote;
 use crate::token::{Token, token};
@@ -269,6 +269,26 @@ impl<'a> Tokens<'a> {
     {
         let text = name_text(self.ahead);
         self.take_as(text)
+    }
+
+    /// The text of the name or word that comes next, which stays. Another token is refused.
+    #[tactic(auto, unfolding(crate::specs::Reader::word_text))]
+    pub fn word_text(&self) -> Result<Text, ParseError>
+        ensures { Reads (spec.word_text self.now) result self.now }
+    {
+        let text = name_text(self.ahead);
+        if text.is_empty() {
+            return Err(self.refuse(Kind::Syntax));
+        }
+        Ok(Text::new(self.alloc, text)?)
+    }
+
+    /// Whether a name is that of this text.
+    #[tactic(auto, unfolding(crate::specs::Reader::is_named))]
+    pub fn is_named(&self, name: Name, text: &str) -> bool
+        ensures { result ≡ spec.is_named text.now name self.now }
+    {
+        is_text_of(self.known, &self.added, name, text)
     }
 
     /// Takes a name. Another token is refused.

@@ -1,5 +1,5 @@
 // Names that a parser adds to those that it was lent.
-ghost use Rattle.std.specs.Prelude.{◌≡◌, ◌++◌, IfOk, OnOk, OnErr};
+ghost use Rattle.std.specs.Prelude.{◌≡◌, ◌++◌, slice_get, IfOk, OnOk, OnErr};
 ghost use Rattle.sv_base.specs.Names.{number_of, IsTable};
 ghost use Rattle.sv_lex.specs.Reader as spec;
 
@@ -34,4 +34,20 @@ pub fn intern(known: &Names, added: &mut Names, text: &str) -> Result<Name, NoMe
     }
     let Name(number) = added.intern(text)?;
     Ok(Name(count + number))
+}
+
+/// Whether the name is that of this text.
+pub fn is_text_of(known: &Names, added: &Names, name: Name, text: &str) -> bool
+    ensures { result ≡ spec.is_same_text text.now (slice_get (known.now ++ added.now) name.0) }
+{
+    let count = known.len();
+    let found = if name.0 < count {
+        known.text(name)
+    } else {
+        added.text(Name(name.0 - count))
+    };
+    match found {
+        Some(found) => found == text,
+        None => false,
+    }
 }
