@@ -1,0 +1,14 @@
+pub mod Turns
+pub mod Words
+pub mod Arrows
+pub mod SoundLists
+pub mod SoundLeaves
+pub mod SoundSuffixes
+pub mod SoundOperators
+pub mod Sound
+pub mod Shrinks
+pub mod EndLists
+pub mod EndLeaves
+pub mod EndSuffixes
+pub mod EndOperators
+pub mod End

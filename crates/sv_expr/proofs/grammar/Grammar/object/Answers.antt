@@ -1,0 +1,18 @@
+use Rattle.std.proofs.Common.{rules, arith}
+use Rattle.std.proofs.lemmas.Grind.{common_steps}
+use Rattle.sv_expr.specs.Limits.{real}
+use Rattle.sv_expr.specs.Rules as spec
+use Rattle.sv_expr.specs.Rules.{object}
+use Rattle.sv_expr.proofs.grammar.Grammar.object.Goals as goal
+
+pub returns-in_err-found : goal.returns-in_err-found
+unfolding object
+returns-in_err-found g c =
+    let read = c.listed.ensures (spec.field real c.args.self.now.room (g.B.Enclosed.readers c.args.self.now.room)) (λ old new r h. search rules) in
+    first_of (search rules, grind (arith, common_steps))
+
+pub returns : goal.returns
+unfolding object
+returns g c =
+    let read = c.listed.ensures (spec.field real c.args.self.now.room (g.B.Enclosed.readers c.args.self.now.room)) (λ old new r h. search rules) in
+    first_of (search rules, grind (arith, common_steps))

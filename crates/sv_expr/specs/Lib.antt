@@ -1,0 +1,12 @@
+pub mod Limits
+pub mod Nodes
+pub mod Operators
+pub mod Layer
+pub mod Quotients
+pub mod Ahead
+pub mod Lists
+pub mod Rules
+pub mod Below
+pub mod Alone
+pub mod Grammar
+pub mod Laws
