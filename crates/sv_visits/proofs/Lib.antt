@@ -1,0 +1,5 @@
+pub mod Points
+pub mod Visiting
+pub mod Walking
+pub mod Underway
+pub mod Work

@@ -1,0 +1,5 @@
+pub mod Waits
+pub mod Visits
+pub mod Path
+pub mod Cycle
+pub mod Walk
