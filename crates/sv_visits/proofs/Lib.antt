@@ -3,3 +3,5 @@ pub mod Visiting
 pub mod Walking
 pub mod Underway
 pub mod Work
+pub mod Searching
+pub mod SearchWork

@@ -3,19 +3,19 @@ use Rattle.std.proofs.Common.{◌≡◌, ℕ, zero, suc, ◌+◌, ◌-◌, ◌*�
 use Rattle.std.specs.Prelude.{◌==◌, count_by}
 use Rattle.std.specs.List.{sum_by, slice_get}
 use Rattle.std.proofs.lemmas.Bool.{cases_eq, cases_lt, eq-eqb, ne_eqb, cases_Bool, eqb-true, false≢true}
-use Rattle.std.proofs.lemmas.List.{get_or-set_same, get_or-set_other, length-set, get_or_past}
+use Rattle.std.proofs.lemmas.List.{get_or-set_same, get_or-set_other, length-set, get_or_past, get_or_read}
 use Rattle.std.proofs.lemmas.List.Sums.{sum_by-set}
-use Rattle.sv_visits.specs.Waits.{is_in, waits_of, IsWhole}
+use Rattle.sv_visits.specs.Links.{is_in, links_of, IsWhole}
 use Rattle.sv_visits.specs.Visits.{with_point, Visits, none, again, first}
 use Rattle.sv_visits.specs.Path.{Path, one as step, more}
 use Rattle.sv_visits.specs.declared.marks.Mark.{Mark}
 use Rattle.sv_visits.specs.declared.marks.Mark.TheVariants.{New, Open, Done}
 use Rattle.sv_visits.specs.declared.marks.Frame.{Frame}
 use Rattle.sv_visits.specs.declared.walk.Walk.{Walk}
-use Rattle.sv_visits.specs.Walk.{wait_at, rest_of, mark_of, is_new, is_open, is_done, one, frames_of, IsAwaited, IsLine, IsWalk, Finishes, Enters, work_of, work_left}
+use Rattle.sv_visits.specs.Walk.{link_at, rest_of, mark_of, is_new, is_open, is_done, one, frames_of, IsLinked, IsLine, IsWalk, Finishes, Enters, work_of, work_left}
 use Rattle.sv_visits.proofs.Points.{with_new, in_push, in_left, in_head, in_tail, is_in-append, pushed-other}
 
--- ---- what a frame waits for
+-- ---- what a frame links for
 
 pub rest-none : (xs : List ℕ) (n : ℕ) → slice_get xs n ≡ None → (drop n xs ≡ []) × (length xs ≤ n)
 rest-none [] zero h = (refl, omega arith)
@@ -54,15 +54,15 @@ opens Done h = absurd (omega arith)
 -- ---- a cycle
 
 -- a point that has a frame leads to what the top one leads to
-pub line-path : (waits : List (List ℕ)) (f : Frame) (below : List Frame) (p q : ℕ) → IsLine waits (f ∷ below) → 0 < frames_of p (f ∷ below) → Path (waits_of waits) f.point q → Path (waits_of waits) p q
-line-path waits f [] p q line here path = elim (cases_eq f.point p) [
-    | inl same ↦ subst (λ z. Path (waits_of waits) z q) same path
+pub line-path : (links : List (List ℕ)) (f : Frame) (below : List Frame) (p q : ℕ) → IsLine links (f ∷ below) → 0 < frames_of p (f ∷ below) → Path (links_of links) f.point q → Path (links_of links) p q
+line-path links f [] p q line here path = elim (cases_eq f.point p) [
+    | inl same ↦ subst (λ z. Path (links_of links) z q) same path
     | inr other ↦ absurd (omega (arith, frames-below p f [] other))
   ]
-line-path waits f (g ∷ lower) p q line here path =
-    let deeper = line-path waits g lower p q line.1 in
+line-path links f (g ∷ lower) p q line here path =
+    let deeper = line-path links g lower p q line.1 in
     elim (cases_eq f.point p) [
-      | inl same ↦ subst (λ z. Path (waits_of waits) z q) same path
+      | inl same ↦ subst (λ z. Path (links_of links) z q) same path
       | inr other ↦ deeper (subst (λ z. 0 < z) (frames-below p f (g ∷ lower) other) here) (more line.0 path)
     ]
 
@@ -80,18 +80,18 @@ marked_within : (marks : List Mark) (p : ℕ) → (mark_of marks p ≡ New → �
 marked_within marks p known = elim (cases_lt p (length marks)) [ inl lt ↦ lt | inr past ↦ absurd (known (get_or_past marks p New past)) ]
 
 -- the top frame's point is open
-pub top-open : (waits : List (List ℕ)) (walk : Walk) (f : Frame) (below : List Frame) → IsWalk waits walk (f ∷ below) → mark_of walk.marks.items f.point ≡ Open
-top-open waits walk f below w = opens (mark_of walk.marks.items f.point) (omega (arith, w.opened f.point, frames-top f.point f below refl))
+pub top-open : (links : List (List ℕ)) (walk : Walk) (f : Frame) (below : List Frame) → IsWalk links walk (f ∷ below) → mark_of walk.marks.items f.point ≡ Open
+top-open links walk f below w = opens (mark_of walk.marks.items f.point) (omega (arith, w.opened f.point, frames-top f.point f below refl))
 
-pub top_within : (waits : List (List ℕ)) (walk : Walk) (f : Frame) (below : List Frame) → IsWalk waits walk (f ∷ below) → f.point < length walk.marks.items
-top_within waits walk f below w = marked_within walk.marks.items f.point (λ e. let opened = top-open waits walk f below w in cc)
+pub top_within : (links : List (List ℕ)) (walk : Walk) (f : Frame) (below : List Frame) → IsWalk links walk (f ∷ below) → f.point < length walk.marks.items
+top_within links walk f below w = marked_within walk.marks.items f.point (λ e. let opened = top-open links walk f below w in cc)
 
 -- the top frame's point is placed
-pub place-walk : (waits : List (List ℕ)) (walk walk' : Walk) (f : Frame) (below : List Frame) → IsWalk waits walk (f ∷ below) → walk'.marks.items ≡ set walk.marks.items f.point Done
-    → walk'.order.items ≡ walk.order.items ++ f.point ∷ [] → IsWalk waits walk' below
-place-walk waits walk walk' f below w marks order =
-    let within = top_within waits walk f below w in
-    let alone : frames_of f.point below ≡ 0 = omega (arith, w.opened f.point, frames-top f.point f below refl, open-by _ (top-open waits walk f below w)) in
+pub place-walk : (links : List (List ℕ)) (walk walk' : Walk) (f : Frame) (below : List Frame) → IsWalk links walk (f ∷ below) → walk'.marks.items ≡ set walk.marks.items f.point Done
+    → walk'.order.items ≡ walk.order.items ++ f.point ∷ [] → IsWalk links walk' below
+place-walk links walk walk' f below w marks order =
+    let within = top_within links walk f below w in
+    let alone : frames_of f.point below ≡ 0 = omega (arith, w.opened f.point, frames-top f.point f below refl, open-by _ (top-open links walk f below w)) in
     record {
       size = ap length marks ∙ (length-set walk.marks.items f.point Done ∙ w.size);
       done = λ p. elim (changed walk.marks.items walk'.marks.items f.point Done marks within p) [
@@ -106,9 +106,9 @@ place-walk waits walk walk' f below w marks order =
     }
 
 -- a new point is entered
-pub new-walk : (waits : List (List ℕ)) (walk walk' : Walk) (q : ℕ) (frames : List Frame) → IsWalk waits walk frames → q < length waits → mark_of walk.marks.items q ≡ New → IsAwaited waits q frames
-    → walk'.marks.items ≡ set walk.marks.items q Open → walk'.order.items ≡ walk.order.items → IsWalk waits walk' (record { point = q; next = 0 } ∷ frames)
-new-walk waits walk walk' q frames w here new awaited marks order =
+pub new-walk : (links : List (List ℕ)) (walk walk' : Walk) (q : ℕ) (frames : List Frame) → IsWalk links walk frames → q < length links → mark_of walk.marks.items q ≡ New → IsLinked links q frames
+    → walk'.marks.items ≡ set walk.marks.items q Open → walk'.order.items ≡ walk.order.items → IsWalk links walk' (record { point = q; next = 0 } ∷ frames)
+new-walk links walk walk' q frames w here new linked marks order =
     let f : Frame = record { point = q; next = 0 } in
     let within : q < length walk.marks.items = omega (arith, w.size) in
     let alone : frames_of q frames ≡ 0 = w.opened q ∙ ap (λ z. one (is_open z)) new in
@@ -122,5 +122,23 @@ new-walk waits walk walk' q frames w here new awaited marks order =
         | inl same ↦ frames-top p f frames (sym same.0) ∙ (ap suc (ap (λ z. frames_of z frames) same.0 ∙ alone) ∙ sym (open-by _ same.1))
         | inr other ↦ frames-below p f frames (λ e. other.0 (sym e)) ∙ (w.opened p ∙ sym (ap (λ z. one (is_open z)) other.1))
       ];
-      line = (awaited, w.line);
+      line = (linked, w.line);
     }
+
+-- ---- a mark that was read
+
+read-mark : (marks : List Mark) (p : ℕ) (m : Mark) → p < length marks → m ≡ get_or marks p m → mark_of marks p ≡ m
+read-mark marks p m within e = sym (get_or_read marks p m within e New)
+
+pub new_from_read : (marks : List Mark) (p : ℕ) (m : Mark) (b : Bool) → p < length marks → m ≡ get_or marks p m → b ≡ is_new m → b ≡ true → mark_of marks p ≡ New
+new_from_read marks p m b within e is new = read-mark marks p m within e ∙ only m (sym is ∙ new)
+  where
+    only : (m : Mark) → is_new m ≡ true → m ≡ New
+    only New h = refl
+    only Open h = cc
+    only Done h = cc
+
+pub old_from_read : (marks : List Mark) (p : ℕ) (m : Mark) (b : Bool) → p < length marks → m ≡ get_or marks p m → b ≡ is_new m → b ≡ false → mark_of marks p ≡ New → ⊥
+old_from_read marks p m b within e is old new =
+    let both : is_new m ≡ true = ap is_new (sym (read-mark marks p m within e) ∙ new) in
+    false≢true (sym old ∙ (is ∙ both))

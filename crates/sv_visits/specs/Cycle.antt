@@ -1,6 +1,6 @@
 -- Cycles of a relation between points.
-use Rattle.std.specs.Prelude.{◌≡◌, ℕ, ◌≤◌, Bool, true, List, [], ◌∷◌}
-use Rattle.sv_visits.specs.Waits.{is_in}
+use Rattle.std.specs.Prelude.{◌≡◌, ℕ, ◌≤◌, Bool, true, List, [], ◌∷◌, slice_index}
+use Rattle.sv_visits.specs.Links.{is_in}
 
 -- from p on, each point of the list is related to the next, and the last to the end
 abbrev pub Leads : (ℕ → ℕ → Type 0) → ℕ → List ℕ → ℕ → Type 0
@@ -11,3 +11,8 @@ Leads R p (q ∷ points) end = R p q × Leads R q points end
 abbrev pub IsCycle : (ℕ → ℕ → Type 0) → List ℕ → Type 0
 IsCycle R [] = ⊥
 IsCycle R (p ∷ points) = Leads R p points p
+
+-- a cycle that begins with the first point on any
+pub record IsFirstCycle (R : ℕ → ℕ → Type 0) (cycle : List ℕ) : Type 0 where
+  pub is_cycle : IsCycle R cycle
+  pub is_first : (other : List ℕ) (p : ℕ) → IsCycle R other → is_in p other ≡ true → slice_index cycle 0 ≤ p

@@ -1,5 +1,6 @@
-pub mod Waits
+pub mod Links
 pub mod Visits
 pub mod Path
 pub mod Cycle
 pub mod Walk
+pub mod Search

@@ -2,19 +2,19 @@
 -- visited. Frames are listed from the one on top.
 use Rattle.std.specs.Prelude.{◌≡◌, ℕ, ◌+◌, ◌-◌, ◌*◌, ◌==◌, Bool, true, false, List, [], ◌∷◌, ◌++◌, Option, length, slice_get, slice_index_or, slice_set, drop, map, count_by, if◌then◌else◌}
 use Rattle.std.specs.List.{sum_by}
-use Rattle.sv_visits.specs.Waits.{is_in, waits_of}
+use Rattle.sv_visits.specs.Links.{is_in, links_of}
 use Rattle.sv_visits.specs.Visits.{with_point, Visits}
 use Rattle.sv_visits.specs.declared.marks.Mark.{Mark}
 use Rattle.sv_visits.specs.declared.marks.Mark.TheVariants.{New, Open, Done}
 use Rattle.sv_visits.specs.declared.marks.Frame.{Frame}
 use Rattle.sv_visits.specs.declared.walk.Walk.{Walk}
 
--- the next point that a frame's point waits for, and all that it still waits for
-abbrev pub wait_at : List (List ℕ) → Frame → Option ℕ
-wait_at waits frame = slice_get (waits_of waits frame.point) frame.next
+-- the next point that a frame's point links for, and all that it still links for
+abbrev pub link_at : List (List ℕ) → Frame → Option ℕ
+link_at links frame = slice_get (links_of links frame.point) frame.next
 
 abbrev pub rest_of : List (List ℕ) → Frame → List ℕ
-rest_of waits frame = drop frame.next (waits_of waits frame.point)
+rest_of links frame = drop frame.next (links_of links frame.point)
 
 -- the mark of a point
 abbrev pub mark_of : List Mark → ℕ → Mark
@@ -44,28 +44,28 @@ abbrev pub frames_of : ℕ → List Frame → ℕ
 frames_of p [] = 0
 frames_of p (f ∷ below) = one (f.point == p) + frames_of p below
 
--- the point on top waits for another
-abbrev pub IsAwaited : List (List ℕ) → ℕ → List Frame → Type 0
-IsAwaited waits p [] = Unit {0}
-IsAwaited waits p (f ∷ below) = is_in p (waits_of waits f.point) ≡ true
+-- the point on top links for another
+abbrev pub IsLinked : List (List ℕ) → ℕ → List Frame → Type 0
+IsLinked links p [] = Unit {0}
+IsLinked links p (f ∷ below) = is_in p (links_of links f.point) ≡ true
 
--- each point waits for the one above it
+-- each point links for the one above it
 abbrev pub IsLine : List (List ℕ) → List Frame → Type 0
-IsLine waits [] = Unit {0}
-IsLine waits (f ∷ below) = IsAwaited waits f.point below × IsLine waits below
+IsLine links [] = Unit {0}
+IsLine links (f ∷ below) = IsLinked links f.point below × IsLine links below
 
 -- the marks tell which points are placed and which have a frame
-pub record IsWalk (waits : List (List ℕ)) (walk : Walk) (frames : List Frame) : Type 0 where
-  pub size : length walk.marks.items ≡ length waits
+pub record IsWalk (links : List (List ℕ)) (walk : Walk) (frames : List Frame) : Type 0 where
+  pub size : length walk.marks.items ≡ length links
   pub done : (p : ℕ) → is_in p walk.order.items ≡ is_done (mark_of walk.marks.items p)
   pub opened : (p : ℕ) → frames_of p frames ≡ one (is_open (mark_of walk.marks.items p))
-  pub line : IsLine waits frames
+  pub line : IsLine links frames
 
 -- what is placed when the frames are done with
 abbrev pub Finishes : List (List ℕ) → List ℕ → List Frame → List ℕ → Type 0
-Finishes waits placed [] after = placed ≡ after
-Finishes waits placed (f ∷ below) after =
-    (between : List ℕ) × Visits (waits_of waits) placed (rest_of waits f) between × Finishes waits (with_point f.point between) below after
+Finishes links placed [] after = placed ≡ after
+Finishes links placed (f ∷ below) after =
+    (between : List ℕ) × Visits (links_of links) placed (rest_of links f) between × Finishes links (with_point f.point between) below after
 
 -- a point is entered, by its mark
 abbrev pub Enters : Mark → ℕ → Walk → List Frame → Walk → List Frame → Type 0
@@ -73,9 +73,9 @@ Enters New p walk stack walk' stack' = (walk' ≡ record walk { marks = walk'.ma
 Enters Open p walk stack walk' stack' = (walk' ≡ record walk { is_cyclic = true }) × (stack' ≡ stack)
 Enters Done p walk stack walk' stack' = (walk' ≡ walk) × (stack' ≡ stack)
 
--- the work that is left: two for each new point and one for each point that it waits for, and as much for the frames
+-- the work that is left: two for each new point and one for each point that it links for, and as much for the frames
 abbrev pub work_of : List (List ℕ) → Frame → ℕ
-work_of waits f = length (waits_of waits f.point) - f.next + 1
+work_of links f = length (links_of links f.point) - f.next + 1
 
 abbrev pub work_left : List (List ℕ) → Walk → List Frame → ℕ
-work_left waits walk frames = (sum_by length waits + 2) * count_by is_new walk.marks.items + sum_by (work_of waits) frames
+work_left links walk frames = (sum_by length links + 2) * count_by is_new walk.marks.items + sum_by (work_of links) frames

@@ -1,7 +1,7 @@
-//! Points that wait for others: the order in which a visit places them, each behind those that it waits for, or a cycle
-//! of points that wait for one another.
+//! Points that are linked to others: the order in which visits place them, each behind those that it is linked to, or the
+//! first cycle of links.
 #![tactic(auto)]
 
+mod cycle;
 mod marks;
 mod walk;
-

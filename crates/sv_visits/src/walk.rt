@@ -1,13 +1,13 @@
-// The walk that places each point behind those that it waits for. A stack holds the points that are being visited, so that
+// The walk that places each point behind those that it links for. A stack holds the points that are being visited, so that
 // a long line of them takes no deep recursion.
 ghost use Rattle.std.specs.Prelude.{◌≡◌, ◌<◌, ◌≤◌, [], ◌∷◌, ◌++◌, ℕ, IfOk, OnOk, true, false, length, slice_set};
 ghost use Rattle.std.specs.List.{range_with_len};
-ghost use Rattle.sv_visits.specs.Waits.{waits_of, IsWhole};
+ghost use Rattle.sv_visits.specs.Links.{links_of, IsWhole};
 ghost use Rattle.sv_visits.specs.Visits.{Visits};
 ghost use Rattle.sv_visits.specs.Path.{Path};
 ghost use Rattle.sv_visits.specs.Walk.{mark_of, IsWalk, Enters};
 
-use crate::marks::{Frame, Mark, next_wait};
+use crate::marks::{Frame, Mark, next_link};
 use std::alloc::Global;
 use sv_base::NoMemory;
 use sv_list::Items;
@@ -21,41 +21,41 @@ pub(crate) struct Walk {
 }
 
 /// A walk from each of the first `count` points.
-pub(crate) fn walk_all(alloc: Global, waits: &[Items<u32>], count: u32) -> Result<Walk, NoMemory>
-    requires whole { IsWhole waits.now }
-    requires starts { count ≤ length waits.now }
-    ensures order { IfOk result (λ walk. walk.is_cyclic ≡ false → Visits (waits_of waits.now) [] (range_with_len 0 count) walk.order.items) }
-    ensures cyclic { IfOk result (λ walk. walk.is_cyclic ≡ true → (p : ℕ) × Path (waits_of waits.now) p p) }
+pub(crate) fn walk_all(alloc: Global, links: &[Items<u32>], count: u32) -> Result<Walk, NoMemory>
+    requires whole { IsWhole links.now }
+    requires starts { count ≤ length links.now }
+    ensures order { IfOk result (λ walk. walk.is_cyclic ≡ false → Visits (links_of links.now) [] (range_with_len 0 count) walk.order.items) }
+    ensures cyclic { IfOk result (λ walk. walk.is_cyclic ≡ true → (p : ℕ) × Path (links_of links.now) p p) }
 {
     let mut walk = Walk {
-        marks: vec![in alloc; Mark::New; waits.len()]?,
+        marks: vec![in alloc; Mark::New; links.len()]?,
         order: Vec::new(alloc),
         is_cyclic: false,
     };
     for start in 0..count {
-        if walk.marks[start as usize] == Mark::New {
-            walk_from(alloc, waits, &mut walk, start)?;
-        }
+        walk_from(alloc, links, &mut walk, start)?;
     }
     Ok(walk)
 }
 
-// Visits a new point and all that it leads to.
-fn walk_from(alloc: Global, waits: &[Items<u32>], walk: &mut Walk, start: u32) -> Result<(), NoMemory>
-    requires whole { IsWhole waits.now }
-    requires within { start < length waits.now }
-    requires new { mark_of walk.old.marks.items start ≡ Mark.New }
-    requires walk { IsWalk waits.now walk.old [] }
-    requires known { walk.old.is_cyclic ≡ true → (p : ℕ) × Path (waits_of waits.now) p p }
-    ensures walk { OnOk result (IsWalk waits.now walk.new []) }
-    ensures visited { OnOk result (walk.new.is_cyclic ≡ false → Visits (waits_of waits.now) walk.old.order.items (start ∷ []) walk.new.order.items) }
+// Visits a point, and with it all that it leads to, where it is new.
+fn walk_from(alloc: Global, links: &[Items<u32>], walk: &mut Walk, start: u32) -> Result<(), NoMemory>
+    requires whole { IsWhole links.now }
+    requires within { start < length links.now }
+    requires walk { IsWalk links.now walk.old [] }
+    requires known { walk.old.is_cyclic ≡ true → (p : ℕ) × Path (links_of links.now) p p }
+    ensures walk { OnOk result (IsWalk links.now walk.new []) }
+    ensures visited { OnOk result (walk.new.is_cyclic ≡ false → Visits (links_of links.now) walk.old.order.items (start ∷ []) walk.new.order.items) }
     ensures earlier { OnOk result (walk.new.is_cyclic ≡ false → walk.old.is_cyclic ≡ false) }
-    ensures known { OnOk result (walk.new.is_cyclic ≡ true → (p : ℕ) × Path (waits_of waits.now) p p) }
+    ensures known { OnOk result (walk.new.is_cyclic ≡ true → (p : ℕ) × Path (links_of links.now) p p) }
 {
+    if !walk.marks[start as usize].is_new() {
+        return Ok(());
+    }
     let mut stack = Vec::new(alloc);
     enter(walk, &mut stack, start)?;
     while let Some(frame) = stack.pop() {
-        match next_wait(waits, &frame) {
+        match next_link(links, &frame) {
             None => place(walk, frame.point)?,
             Some(point) => {
                 stack.push(Frame {

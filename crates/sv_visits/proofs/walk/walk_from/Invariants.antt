@@ -1,11 +1,11 @@
 use Rattle.std.proofs.Common.{◌≡◌, false, true, ℕ, List, [], ◌∷◌, reverse}
-use Rattle.sv_visits.specs.Waits.{waits_of}
+use Rattle.sv_visits.specs.Links.{links_of}
 use Rattle.sv_visits.specs.Walk.{work_left}
 use Rattle.sv_visits.proofs.Underway.{IsUnderway}
 use Rattle.sv_visits.proofs.walk.walk_from.Given as goal
 
 abbrev pub invariant-loop-frame : goal.invariant-loop-frame
-invariant-loop-frame l = IsUnderway l.waits l.fn.walk l.start l.walk (reverse l.stack.items)
+invariant-loop-frame l = IsUnderway l.links l.fn.walk l.start l.walk (reverse l.stack.items)
 
 abbrev pub decreases-loop-frame : goal.decreases-loop-frame
-decreases-loop-frame l = work_left l.waits l.walk (reverse l.stack.items)
+decreases-loop-frame l = work_left l.links l.walk (reverse l.stack.items)
