@@ -5,3 +5,5 @@ pub mod Underway
 pub mod Work
 pub mod Searching
 pub mod SearchWork
+pub mod Turning
+pub mod Cycling

@@ -6,12 +6,12 @@ use Rattle.std.proofs.lemmas.Bool.{cases_eq, cases_Bool, eq-eqb, eqb-true, false
 use Rattle.std.proofs.lemmas.List.{get_or-set_same, get_or-set_other, length-set, length-replicate}
 use Rattle.std.proofs.lemmas.List.Folds.{list_any-append}
 use Rattle.std.proofs.lemmas.List.Sums.{sum_by-set, sum_by_push, get_or-le-sum_by}
-use Rattle.sv_visits.specs.Links.{is_in, links_of, IsWhole}
+use Rattle.sv_visits.specs.Links.{is_in, links_of, IsLink, IsWhole}
 use Rattle.sv_visits.specs.Path.{Path, one as step, more}
 use Rattle.sv_visits.specs.Cycle.{Leads, IsCycle}
 use Rattle.sv_visits.specs.declared.marks.Frame.{Frame}
 use Rattle.sv_visits.specs.Walk.{link_at, rest_of, work_of}
-use Rattle.sv_visits.specs.Search.{IsLink, IsCycleOf, met_at, pends, IsChain, IsFrom, IsSearch, Meets, search_left}
+use Rattle.sv_visits.specs.Search.{IsCycleOf, met_at, pends, IsChain, IsFrom, IsSearch, Meets, search_left}
 use Rattle.sv_visits.proofs.Points.{in_cons}
 use Rattle.sv_visits.proofs.Walking.{rest-none, rest-some}
 use Rattle.sv_visits.proofs.Underway.{behind}

@@ -4,3 +4,4 @@ pub mod Path
 pub mod Cycle
 pub mod Walk
 pub mod Search
+pub mod Visited

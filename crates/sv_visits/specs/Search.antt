@@ -1,14 +1,10 @@
 -- What a search for a cycle knows: the points that it met, and the frames of those that it has gone on to.
 use Rattle.std.specs.Prelude.{◌≡◌, ℕ, ◌+◌, ◌*◌, ◌==◌, ◌||◌, ◌&&◌, not, Bool, true, false, List, [], ◌∷◌, ◌++◌, length, slice_index_or, slice_set, count_by}
 use Rattle.std.specs.List.{sum_by, list_any}
-use Rattle.sv_visits.specs.Links.{is_in, links_of}
+use Rattle.sv_visits.specs.Links.{is_in, links_of, IsLink}
 use Rattle.sv_visits.specs.Cycle.{Leads, IsCycle}
 use Rattle.sv_visits.specs.Walk.{rest_of, work_of}
 use Rattle.sv_visits.specs.declared.marks.Frame.{Frame}
-
--- a point is linked to another
-abbrev pub IsLink : List (List ℕ) → ℕ → ℕ → Type 0
-IsLink links p q = is_in q (links_of links p) ≡ true
 
 -- a cycle of links that begins with a point
 abbrev pub IsCycleOf : List (List ℕ) → ℕ → List ℕ → Type 0

@@ -1,6 +1,7 @@
 // The search for a cycle.
-ghost use Rattle.std.specs.Prelude.{◌≡◌, ◌<◌, IfOk, OnOk, MatchOption, length, map};
-ghost use Rattle.sv_visits.specs.Links.{links_of, IsWhole};
+ghost use Rattle.std.specs.Prelude.{◌≡◌, ◌<◌, ◌^◌, ℕ, IfOk, OnOk, MatchOption, length, map};
+ghost use Rattle.sv_visits.specs.Links.{links_of, IsWhole, IsLink};
+ghost use Rattle.sv_visits.specs.Cycle.{IsFirstCycle};
 ghost use Rattle.sv_visits.specs.Path.{Path};
 ghost use Rattle.sv_visits.specs.Search.{met_at, Meets, IsCycleOf};
 
@@ -8,6 +9,22 @@ use crate::marks::{Frame, next_link};
 use std::alloc::Global;
 use sv_base::NoMemory;
 use sv_list::Items;
+
+/// The first cycle: it begins with the first point that lies on any.
+pub(crate) fn first_cycle(alloc: Global, links: &[Items<u32>]) -> Result<Vec<u32>, NoMemory>
+    requires whole { IsWhole links.now }
+    requires few { length links.now < 2 ^ 32 }
+    requires cyclic { (p : ℕ) × Path (links_of links.now) p p }
+    ensures { IfOk result (λ cycle. IsFirstCycle (IsLink links.now) cycle.items) }
+{
+    let mut start = 0;
+    loop {
+        if let Some(cycle) = cycle_from(alloc, links, start)? {
+            return Ok(cycle);
+        }
+        start += 1;
+    }
+}
 
 // A cycle that begins with `start`, or `None` where it lies on none.
 fn cycle_from(alloc: Global, links: &[Items<u32>], start: u32) -> Result<Option<Vec<u32>>, NoMemory>

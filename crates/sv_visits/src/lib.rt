@@ -4,4 +4,9 @@
 
 mod cycle;
 mod marks;
+mod outcome;
+mod turn;
 mod walk;
+
+pub use turn::unlinked;
+pub use outcome::{Visited, visit};
