@@ -9,7 +9,7 @@ pub struct Named {
 }
 
 /// What is read or assigned: `x`, or the store `$x` by the name behind its `$`.
-#[derive(Clone, Copy, Debug, PartialEq, Eq)]
+#[derive(Clone, Copy, Debug, PartialEq, Eq, Hash)]
 pub enum Ref {
     Plain(Name),
     Store(Name),
