@@ -1,0 +1,5 @@
+pub mod TwoSteps
+pub mod Placing
+pub mod Circles
+pub mod Naming
+pub mod Laws
