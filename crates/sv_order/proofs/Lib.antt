@@ -3,3 +3,4 @@ pub mod Placing
 pub mod Circles
 pub mod Naming
 pub mod Laws
+pub mod Tabling

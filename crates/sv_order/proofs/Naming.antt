@@ -25,10 +25,10 @@ same_ref-self (Store a) = eq-eqb a.0 a.0 refl
 pub has-append : (name : Ref) (xs ys : List Ref) → has name (xs ++ ys) ≡ (has name xs || has name ys)
 has-append name xs ys = list_any-append (same_ref name) xs ys
 
-has-head : (name x : Ref) (xs : List Ref) → name ≡ x → has name (x ∷ xs) ≡ true
+pub has-head : (name x : Ref) (xs : List Ref) → name ≡ x → has name (x ∷ xs) ≡ true
 has-head name x xs e = or_left _ _ (subst (λ z. same_ref name z ≡ true) e (same_ref-self name))
 
-has-cons : (name x : Ref) (xs : List Ref) → has name (x ∷ xs) ≡ true → (name ≡ x) ⊎ (has name xs ≡ true)
+pub has-cons : (name x : Ref) (xs : List Ref) → has name (x ∷ xs) ≡ true → (name ≡ x) ⊎ (has name xs ≡ true)
 has-cons name x xs h = elim (or_cases (same_ref name x) (has name xs) h) [ inl e ↦ inl (same_ref-true name x e) | inr e ↦ inr e ]
 
 -- ---- filters
