@@ -4,3 +4,4 @@ pub mod Circles
 pub mod Naming
 pub mod Laws
 pub mod Tabling
+pub mod Setting

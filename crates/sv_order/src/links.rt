@@ -65,7 +65,10 @@ fn note_last(list: &mut Items<u32>, statement: u32) -> Result<(), NoMemory>
 fn ends_with(list: &Items<u32>, statement: u32) -> bool
     ensures { result ≡ is_last list.now statement }
 {
-    list.as_slice().last() == Some(&statement)
+    match list.as_slice().last() {
+        Some(last) => *last == statement,
+        None => false,
+    }
 }
 
 // The points of the names that a statement reads and doesn't assign, where some statement assigns them. The statement is the
