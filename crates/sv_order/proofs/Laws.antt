@@ -1,11 +1,14 @@
 -- What an order and a cycle of statements are.
-use Rattle.std.proofs.Common.{◌≡◌, ℕ, ◌+◌, ◌<◌, ◌≤◌, Bool, true, false, cond, List, [], ◌∷◌, ◌++◌, length, refl, sym, ap, ◌∙◌, inl, inr, subst, arith}
+use Rattle.std.proofs.Common.{◌≡◌, ℕ, ◌+◌, ◌<◌, ◌≤◌, Bool, true, false, cond, List, [], ◌∷◌, ◌++◌, length, Vec, Global, refl, sym, ap, ◌∙◌, inl, inr, subst, arith}
 use Rattle.std.specs.Prelude.{nat_lt, filter}
 use Rattle.std.specs.List.{range_with_len}
 use Rattle.std.proofs.lemmas.Bool.{cases_lt, cases_Bool, lt-ltb, le-ltb, false≢true, false_from_ne_true}
 use Rattle.sv_visits.specs.Links.{is_in, links_of, IsLink}
 use Rattle.sv_visits.specs.Visits.{Visits}
 use Rattle.sv_visits.specs.Cycle.{IsCycle, IsFirstCycle}
+use Rattle.sv_visits.specs.Visited.{IsVisited}
+use Rattle.sv_visits.specs.declared.outcome.Visited.{Visited}
+use Rattle.sv_visits.specs.declared.outcome.Visited.TheVariants.{Order, Cycle}
 use Rattle.sv_visits.proofs.Points.{in_head}
 use Rattle.sv_visits.proofs.Visiting.{visits-reach}
 use Rattle.sv_visits.proofs.Cycling.{first-map}
@@ -54,3 +57,16 @@ pub points-cycle : (list : List Reads) (links : List (List ℕ)) (points cycle :
 points-cycle list links points cycle steps first e =
     first-map (λ s t. (t < length list) × (is_in s (before_of list t) ≡ true)) (Before list) (λ s t h. before-back list s t h) (λ s t b. before-there list s t b) cycle
     (subst (IsFirstCycle (λ s t. (t < length list) × (is_in s (before_of list t) ≡ true))) (sym e) (first-only (length list) (before_of list) (links_of links) steps points first))
+
+-- what came of the visits
+pub found-order : (list : List Reads) (links now : List (List ℕ)) (v : Visited) (points : Vec ℕ Global) (slice order : List ℕ) → IsTwoStep (length list) (before_of list) (links_of links) → now ≡ links → IsVisited now (length list) v
+    → v ≡ Order points → slice ≡ points.items → order ≡ filter (λ p. nat_lt p (length list)) slice → IsOrder list order
+found-order list links now v points slice order steps same visited is read e =
+    let visits : Visits (links_of links) [] (range_with_len 0 (length list)) points.items = subst (λ z. Visits (links_of z) [] (range_with_len 0 (length list)) points.items) same (subst (IsVisited now (length list)) is visited) in
+    points-order list links points.items order steps visits (e ∙ ap (filter (λ p. nat_lt p (length list))) read)
+
+pub found-cycle : (list : List Reads) (links now : List (List ℕ)) (v : Visited) (points : Vec ℕ Global) (slice cycle : List ℕ) → IsTwoStep (length list) (before_of list) (links_of links) → now ≡ links → IsVisited now (length list) v
+    → v ≡ Cycle points → slice ≡ points.items → cycle ≡ filter (λ p. nat_lt p (length list)) slice → IsFirstCycle (Before list) cycle
+found-cycle list links now v points slice cycle steps same visited is read e =
+    let first : IsFirstCycle (λ p q. IsLink links q p) points.items = subst (λ z. IsFirstCycle (λ p q. IsLink z q p) points.items) same (subst (IsVisited now (length list)) is visited) in
+    points-cycle list links points.items cycle steps first (e ∙ ap (filter (λ p. nat_lt p (length list))) read)

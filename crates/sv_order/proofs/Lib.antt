@@ -5,3 +5,4 @@ pub mod Naming
 pub mod Laws
 pub mod Tabling
 pub mod Setting
+pub mod Linking
