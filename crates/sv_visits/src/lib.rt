@@ -5,6 +5,8 @@
 mod cycle;
 mod marks;
 mod outcome;
+#[cfg(test)]
+mod tests;
 mod turn;
 mod walk;
 
