@@ -7,3 +7,4 @@ pub mod Searching
 pub mod SearchWork
 pub mod Turning
 pub mod Cycling
+pub mod Flooding

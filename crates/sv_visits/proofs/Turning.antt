@@ -88,7 +88,7 @@ turned-all links turned n all t = subst (λ z. IsTurned z turned) (take_all n li
 
 -- ---- the points that one is linked to
 
-in_at : (xs : List ℕ) (k d : ℕ) → k < length xs → is_in (get_or xs k d) xs ≡ true
+pub in_at : (xs : List ℕ) (k d : ℕ) → k < length xs → is_in (get_or xs k d) xs ≡ true
 in_at [] k d lt = absurd (omega arith)
 in_at (x ∷ xs) zero d lt = in_head x xs
 in_at (x ∷ xs) (suc k) d lt = in_tail (get_or xs k d) x xs (in_at xs k d (omega arith))

@@ -142,3 +142,10 @@ pub old_from_read : (marks : List Mark) (p : ℕ) (m : Mark) (b : Bool) → p < 
 old_from_read marks p m b within e is old new =
     let both : is_new m ≡ true = ap is_new (sym (read-mark marks p m within e) ∙ new) in
     false≢true (sym old ∙ (is ∙ both))
+
+-- what is placed is there
+pub order_within : (links : List (List ℕ)) (walk : Walk) (p : ℕ) → IsWalk links walk [] → is_in p walk.order.items ≡ true → p < length links
+order_within links walk p w here =
+    let done : is_done (mark_of walk.marks.items p) ≡ true = sym (w.done p) ∙ here in
+    let inside = marked_within walk.marks.items p (λ new. false≢true (sym (ap is_done new) ∙ done)) in
+    omega (arith, inside, w.size)

@@ -5,3 +5,4 @@ pub mod Cycle
 pub mod Walk
 pub mod Search
 pub mod Visited
+pub mod Groups

@@ -2,36 +2,45 @@
 ghost use Rattle.std.specs.Prelude.{◌≡◌, ◌<◌, ◌^◌, ℕ, IfOk, OnOk, MatchOption, length, map};
 ghost use Rattle.sv_visits.specs.Links.{links_of, IsWhole, IsLink};
 ghost use Rattle.sv_visits.specs.Cycle.{IsFirstCycle};
+ghost use Rattle.sv_visits.specs.Groups.{NoneRises};
 ghost use Rattle.sv_visits.specs.Path.{Path};
 ghost use Rattle.sv_visits.specs.Search.{met_at, Meets, IsCycleOf};
 
+use crate::groups::stays;
 use crate::marks::{Frame, next_link};
 use std::alloc::Global;
 use sv_base::NoMemory;
 use sv_list::Items;
 
 /// The first cycle: it begins with the first point that lies on any.
-pub(crate) fn first_cycle(alloc: Global, links: &[Items<u32>]) -> Result<Vec<u32>, NoMemory>
+pub(crate) fn first_cycle(alloc: Global, links: &[Items<u32>], groups: &[usize]) -> Result<Vec<u32>, NoMemory>
     requires whole { IsWhole links.now }
+    requires size { length groups.now ≡ length links.now }
+    requires falls { NoneRises links.now groups.now }
     requires few { length links.now < 2 ^ 32 }
     requires cyclic { (p : ℕ) × Path (links_of links.now) p p }
     ensures { IfOk result (λ cycle. IsFirstCycle (IsLink links.now) cycle.items) }
 {
     let mut start = 0;
     loop {
-        if let Some(cycle) = cycle_from(alloc, links, start)? {
+        if let Some(cycle) = cycle_from(alloc, links, groups, start)? {
             return Ok(cycle);
         }
         start += 1;
     }
 }
 
-// A cycle that begins with `start`, or `None` where it lies on none.
-fn cycle_from(alloc: Global, links: &[Items<u32>], start: u32) -> Result<Option<Vec<u32>>, NoMemory>
+// A cycle that begins with `start`, or `None` where it lies on none. It lies on none where it is linked to none of its own group.
+fn cycle_from(alloc: Global, links: &[Items<u32>], groups: &[usize], start: u32) -> Result<Option<Vec<u32>>, NoMemory>
     requires whole { IsWhole links.now }
+    requires size { length groups.now ≡ length links.now }
+    requires falls { NoneRises links.now groups.now }
     requires within { start < length links.now }
     ensures { IfOk result (λ found. MatchOption found (Path (links_of links.now) start start → ⊥) (λ cycle. IsCycleOf links.now start cycle.items)) }
 {
+    if !stays(links, groups, start) {
+        return Ok(None);
+    }
     let mut met = vec![in alloc; false; links.len()]?;
     let mut stack = Vec::new(alloc);
     stack.push(Frame {

@@ -3,6 +3,7 @@
 #![tactic(auto)]
 
 mod cycle;
+mod groups;
 mod marks;
 mod outcome;
 #[cfg(test)]

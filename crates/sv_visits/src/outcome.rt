@@ -4,6 +4,7 @@ ghost use Rattle.sv_visits.specs.Links.{IsWhole};
 ghost use Rattle.sv_visits.specs.Visited.{IsVisited};
 
 use crate::cycle::first_cycle;
+use crate::groups::groups_of;
 use crate::turn::turned;
 use crate::walk::walk_all;
 use std::alloc::Global;
@@ -31,7 +32,8 @@ pub fn visit(alloc: Global, links: &[Items<u32>], count: u32) -> Result<Visited,
     let walk = walk_all(alloc, links, count)?;
     if walk.is_cyclic {
         let turned = turned(alloc, links)?;
-        return Ok(Visited::Cycle(first_cycle(alloc, &turned)?));
+        let groups = groups_of(alloc, &turned, &walk.order)?;
+        return Ok(Visited::Cycle(first_cycle(alloc, &turned, &groups)?));
     }
     Ok(Visited::Order(walk.order))
 }

@@ -1,6 +1,6 @@
 // The walk that places each point behind those that it links for. A stack holds the points that are being visited, so that
 // a long line of them takes no deep recursion.
-ghost use Rattle.std.specs.Prelude.{◌≡◌, ◌<◌, ◌≤◌, [], ◌∷◌, ◌++◌, ℕ, IfOk, OnOk, true, false, length, slice_set};
+ghost use Rattle.std.specs.Prelude.{◌≡◌, ◌<◌, ◌≤◌, [], ◌∷◌, ◌++◌, ℕ, IfOk, OnOk, true, false, length, slice_set, All};
 ghost use Rattle.std.specs.List.{range_with_len};
 ghost use Rattle.sv_visits.specs.Links.{links_of, IsWhole};
 ghost use Rattle.sv_visits.specs.Visits.{Visits};
@@ -26,6 +26,7 @@ pub(crate) fn walk_all(alloc: Global, links: &[Items<u32>], count: u32) -> Resul
     requires starts { count ≤ length links.now }
     ensures order { IfOk result (λ walk. walk.is_cyclic ≡ false → Visits (links_of links.now) [] (range_with_len 0 count) walk.order.items) }
     ensures cyclic { IfOk result (λ walk. walk.is_cyclic ≡ true → (p : ℕ) × Path (links_of links.now) p p) }
+    ensures within { IfOk result (λ walk. All (λ p. p < length links.now) walk.order.items) }
 {
     let mut walk = Walk {
         marks: vec![in alloc; Mark::New; links.len()]?,

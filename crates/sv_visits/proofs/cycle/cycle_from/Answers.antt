@@ -4,6 +4,7 @@ use Rattle.sv_visits.specs.declared.marks.Frame.{Frame}
 use Rattle.sv_visits.specs.Search.{IsSearch, IsCycleOf, Meets, met_at, search_left}
 use Rattle.sv_visits.proofs.Walking.{rest-some}
 use Rattle.sv_visits.proofs.Searching.{search-start, search_within, search-done, search-met, search-none, search-found}
+use Rattle.sv_visits.proofs.Flooding.{stays-not}
 use Rattle.sv_visits.proofs.SearchWork.{less-done, less-met}
 use Rattle.sv_visits.proofs.cycle.cycle_from.Goals as goal
 
@@ -51,3 +52,6 @@ pub returns : goal.returns
 returns c =
     search-none c.args.links.now c.args.start c.loop-frame.met.items
     (let none : c.loop-frame.stack.items ≡ [] = search rules in subst (IsSearch c.args.links.now c.args.start c.loop-frame.met.items) none c.loop-frame.invariant)
+
+pub returns-then-not-stays : goal.returns-then-not-stays
+returns-then-not-stays c = stays-not c.args.links.now c.args.groups.now c.args.start c.requires.falls (sym c.stays.ensures ∙ c.if-not-stays.true)
