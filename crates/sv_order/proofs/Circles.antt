@@ -25,9 +25,9 @@ leads-earlier R p (q ∷ points) end x h (inr same) = let y = leads-earlier R q 
 pub cycle-earlier : (R : ℕ → ℕ → Type 0) (cycle : List ℕ) (x : ℕ) → IsCycle R cycle → is_in x cycle ≡ true → (y : ℕ) × (is_in y cycle ≡ true) × R y x
 cycle-earlier R [] x h here = absurd h
 cycle-earlier R (p ∷ points) x h here = elim (in_cons x p points here) [
-    | inl same ↦ leads-earlier R p points p x h (inr (sym same))
-    | inr later ↦ leads-earlier R p points p x h (inl later)
-  ]
+  | inl same ↦ leads-earlier R p points p x h (inr (sym same))
+  | inr later ↦ leads-earlier R p points p x h (inl later)
+]
 
 -- ---- two steps are one
 
@@ -87,20 +87,23 @@ module _ (count : ℕ) (before links : ℕ → List ℕ) (steps : IsTwoStep coun
       (q.0 ∷ [], (q.2, q.1), λ x no_one. absurd (false≢true no_one))
   leads-through p (s ∷ points) end h =
       let q = in-flat_map links p (links s) (subst (λ z. is_in p z ≡ true) (sym (steps.two s h.0.0)) h.0.1) in
-      let rest = leads-through s points end h.1 in
-      (q.0 ∷ s ∷ rest.0, (q.2, (q.1, rest.1)), λ x here. elim (in_cons x s points here) [
-        | inl same ↦ in_tail x q.0 (s ∷ rest.0) (subst (λ z. is_in x (z ∷ rest.0) ≡ true) (sym same) (in_head x rest.0))
-        | inr later ↦ in_tail x q.0 (s ∷ rest.0) (in_tail x s rest.0 (rest.2 x later))
-      ])
+      let rest = leads-through s points end h.1 in (
+        q.0 ∷ s ∷ rest.0,
+        (q.2, (q.1, rest.1)),
+        λ x here. elim (in_cons x s points here) [
+          | inl same ↦ in_tail x q.0 (s ∷ rest.0) (subst (λ z. is_in x (z ∷ rest.0) ≡ true) (sym same) (in_head x rest.0))
+          | inr later ↦ in_tail x q.0 (s ∷ rest.0) (in_tail x s rest.0 (rest.2 x later))
+        ],
+      )
 
   head_below : (a : ℕ) (points : List ℕ) → IsFirstCycle Back (a ∷ points) → a < count
   head_below a [] h = elim (cases_lt a count) [ inl lt ↦ lt | inr above ↦ back-statement a a above h.is_cycle ]
   head_below a (q ∷ points) h = elim (cases_lt a count) [
-      | inl lt ↦ lt
-      | inr above ↦ (let under = back-statement a q above h.is_cycle.0 in
+    | inl lt ↦ lt
+    | inr above ↦ (let under = back-statement a q above h.is_cycle.0 in
         let least = h.is_first (a ∷ q ∷ points) q h.is_cycle (in_tail q a (q ∷ points) (in_head q points)) in
         omega (arith, under, least))
-    ]
+  ]
 
   -- the first cycle of points is that of the statements among them
   pub first-only : (points : List ℕ) → IsFirstCycle Back points → IsFirstCycle Is (only count points)

@@ -29,12 +29,12 @@ module _ (list : List Reads) (order : List ℕ) (o : IsOrder list order) where
 
   pub order-once : IsEachOnce list order
   order-once t = elim (cases_lt t (length list)) [
-      | inl lt ↦ (let most : times t order ≤ 1 = visits-once (before_of list) t o (omega arith) in
+    | inl lt ↦ (let most : times t order ≤ 1 = visits-once (before_of list) t o (omega arith) in
         let least = times-present t order (there t lt) in
         let one : times t order ≡ 1 = omega arith in
         one ∙ sym (ap (λ b. cond {A = ℕ} b 1 0) (lt-ltb t (length list) lt)))
-      | inr past ↦ times-absent t order (false_from_ne_true _ (λ here. absurd (omega (arith, below t here, past)))) ∙ sym (ap (λ b. cond {A = ℕ} b 1 0) (le-ltb t (length list) past))
-    ]
+    | inr past ↦ times-absent t order (false_from_ne_true _ (λ here. absurd (omega (arith, below t here, past)))) ∙ sym (ap (λ b. cond {A = ℕ} b 1 0) (le-ltb t (length list) past))
+  ]
 
   pub order-behind : IsBehind list order
   order-behind s t front back b e = visits-behind (before_of list) front back t s o e (before-there list s t b).1

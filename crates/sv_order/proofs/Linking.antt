@@ -68,12 +68,12 @@ linking-more list known i x setters setters' links links' sets needs within is s
   size = size;
   below = below;
   set = λ name k h. notes.notes name k h ∙ (ap (λ z. with_setter (has name z) i (links_of setters k)) (same ∙ sym (sets-at list i x within is))
-    ∙ (ap (with_setter (has name (sets_of list i)) i) (l.set name k h) ∙ sym (setters-more list i name)));
+      ∙ (ap (with_setter (has name (sets_of list i)) i) (l.set name k h) ∙ sym (setters-more list i name)));
   count = ap length e ∙ (length_push links needs ∙ ap (λ z. z + 1) l.count);
   needs = λ t lt. elim (cases_eq t i) [
     | inl last ↦ ap (λ z. links_of z t) e ∙ (get_or_push links needs [] t (l.count ∙ sym last) ∙ (own
-      ∙ (ap (λ z. points_of known (length list) (filter (λ name. not (has name z)) x.reads)) (sym (ap (sets_of list) last ∙ sets-at list i x within is))
-      ∙ ap (λ z. points_of known (length list) (filter (λ name. not (has name (sets_of list t))) z)) (sym (ap (reads_of list) last ∙ reads-at list i x within is)))))
+        ∙ (ap (λ z. points_of known (length list) (filter (λ name. not (has name z)) x.reads)) (sym (ap (sets_of list) last ∙ sets-at list i x within is))
+        ∙ ap (λ z. points_of known (length list) (filter (λ name. not (has name (sets_of list t))) z)) (sym (ap (reads_of list) last ∙ reads-at list i x within is)))))
     | inr other ↦ ap (λ z. links_of z t) e ∙ (get_or_append_left links (needs ∷ []) [] t (omega (arith, l.count, other)) ∙ l.needs t (omega (arith, other)))
   ];
 }
@@ -146,7 +146,9 @@ module _ (list : List Reads) (known : List Ref) (knows : KnowsAll list known) (s
   linking-size = ap length joined ∙ (length-append links setters ∙ omega (arith, l.count, l.size))
 
   pub linking-whole : IsWhole all
-  linking-whole = record { within = λ p q h. elim (cases_lt p (length list)) [
-    | inl lt ↦ (let inside = points-in q (needs_of list p) (subst (λ z. is_in q z ≡ true) (at-statement p lt) h) in omega (arith, inside.1, linking-size))
-    | inr le ↦ (let inside = l.below.below (p - length list) q (subst (λ z. is_in q z ≡ true) (at-name p le) h) in omega (arith, inside, linking-size))
-  ] }
+  linking-whole = record {
+    within = λ p q h. elim (cases_lt p (length list)) [
+      | inl lt ↦ (let inside = points-in q (needs_of list p) (subst (λ z. is_in q z ≡ true) (at-statement p lt) h) in omega (arith, inside.1, linking-size))
+      | inr le ↦ (let inside = l.below.below (p - length list) q (subst (λ z. is_in q z ≡ true) (at-name p le) h) in omega (arith, inside, linking-size))
+    ];
+  }

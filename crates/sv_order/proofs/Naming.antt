@@ -126,21 +126,22 @@ flat_map-has f p (x ∷ xs) h =
 
 reads_within : (list : List Reads) (t : ℕ) (name : Ref) → has name (reads_of list t) ≡ true → t < length list
 reads_within list t name h = elim (cases_lt t (length list)) [
-    | inl lt ↦ lt
-    | inr past ↦ absurd (false≢true (subst (λ z. has name z ≡ true) (get_or_past (map (λ s. s.reads) list) t [] (omega (arith, length-map list (λ (s : Reads). s.reads)))) h))
-  ]
+  | inl lt ↦ lt
+  | inr past ↦ absurd (false≢true (subst (λ z. has name z ≡ true) (get_or_past (map (λ s. s.reads) list) t [] (omega (arith, length-map list (λ (s : Reads). s.reads)))) h))
+]
 
 sets_within : (list : List Reads) (t : ℕ) (name : Ref) → has name (sets_of list t) ≡ true → t < length list
 sets_within list t name h = elim (cases_lt t (length list)) [
-    | inl lt ↦ lt
-    | inr past ↦ absurd (false≢true (subst (λ z. has name z ≡ true) (get_or_past (map (λ s. s.sets) list) t [] (omega (arith, length-map list (λ (s : Reads). s.sets)))) h))
-  ]
+  | inl lt ↦ lt
+  | inr past ↦ absurd (false≢true (subst (λ z. has name z ≡ true) (get_or_past (map (λ s. s.sets) list) t [] (omega (arith, length-map list (λ (s : Reads). s.sets)))) h))
+]
 
 pub before-there : (list : List Reads) (s t : ℕ) → Before list s t → (t < length list) × (is_in s (before_of list t) ≡ true)
-before-there list s t b =
-    (reads_within list t b.name b.is_read,
-    has-flat_map (setters_of list) s b.name (needs_of list t) (has-filter (λ name. not (has name (sets_of list t))) b.name (reads_of list t) b.is_read (not_from_false _ b.is_foreign))
-    (in-filter (λ x. has b.name (sets_of list x)) s (range_with_len 0 (length list)) (in-range 0 (length list) s (omega arith) (omega (arith, sets_within list s b.name b.is_set))) b.is_set))
+before-there list s t b = (
+  reads_within list t b.name b.is_read,
+  has-flat_map (setters_of list) s b.name (needs_of list t) (has-filter (λ name. not (has name (sets_of list t))) b.name (reads_of list t) b.is_read (not_from_false _ b.is_foreign))
+      (in-filter (λ x. has b.name (sets_of list x)) s (range_with_len 0 (length list)) (in-range 0 (length list) s (omega arith) (omega (arith, sets_within list s b.name b.is_set))) b.is_set),
+)
 
 pub before-back : (list : List Reads) (s t : ℕ) → (t < length list) × (is_in s (before_of list t) ≡ true) → Before list s t
 before-back list s t h =

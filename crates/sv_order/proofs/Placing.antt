@@ -27,8 +27,8 @@ times-absent p (x ∷ points) h =
     elim (cases_eq x p) [
       | inl same ↦ absurd (false≢true (sym h ∙ subst (λ z. is_in z (x ∷ points) ≡ true) same (in_head x points)))
       | inr other ↦ (let rest : is_in p points ≡ false = sym (ap (λ b. b || is_in p points) (ne_eqb x p other)) ∙ h in
-        let one = ap (λ b. cond {A = ℕ} b 1 0) (ne_eqb x p other) in
-        omega (arith, times-cons p x points, one, later rest))
+          let one = ap (λ b. cond {A = ℕ} b 1 0) (ne_eqb x p other) in
+          omega (arith, times-cons p x points, one, later rest))
     ]
 
 pub times-present : (p : ℕ) (points : List ℕ) → is_in p points ≡ true → 0 < times p points
@@ -44,14 +44,14 @@ module _ (links : ℕ → List ℕ) where
   -- a point stands once at most
   with-once : (p q : ℕ) (placed : List ℕ) → times q placed ≤ 1 → times q (with_point p placed) ≤ 1
   with-once p q placed le = elim (cases_Bool (is_in p placed)) [
-      | inl h ↦ subst (λ z. times q z ≤ 1) (sym (with_old p placed h)) le
-      | inr h ↦ subst (λ z. times q z ≤ 1) (sym (with_new p placed h)) (elim (cases_eq p q) [
-        | inl same ↦ (let none = subst (λ z. times z placed ≡ 0) same (times-absent p placed h) in
+    | inl h ↦ subst (λ z. times q z ≤ 1) (sym (with_old p placed h)) le
+    | inr h ↦ subst (λ z. times q z ≤ 1) (sym (with_new p placed h)) (elim (cases_eq p q) [
+      | inl same ↦ (let none = subst (λ z. times z placed ≡ 0) same (times-absent p placed h) in
           let one = ap (λ b. cond {A = ℕ} b 1 0) (eq-eqb p q same) in
           omega (arith, times-push q p placed, one, none))
-        | inr other ↦ (let one = ap (λ b. cond {A = ℕ} b 1 0) (ne_eqb p q other) in omega (arith, times-push q p placed, one, le))
-      ])
-    ]
+      | inr other ↦ (let one = ap (λ b. cond {A = ℕ} b 1 0) (ne_eqb p q other) in omega (arith, times-push q p placed, one, le))
+    ])
+  ]
 
   pub visits-once : {points placed after : List ℕ} (q : ℕ) → Visits links placed points after → times q placed ≤ 1 → times q after ≤ 1
   visits-once q none le = le
@@ -69,9 +69,9 @@ module _ (links : ℕ → List ℕ) where
     where
       with_below : (x : ℕ) → is_in x (with_point p between) ≡ true → (is_in x between ≡ true → x < end) → p < end → x < end
       with_below x is inner own = elim (cases_Bool (is_in p between)) [
-          | inl old ↦ inner (subst (λ z. is_in x z ≡ true) (with_old p between old) is)
-          | inr new ↦ elim (in_push_cases x p between (subst (λ z. is_in x z ≡ true) (with_new p between new) is)) [ inl before ↦ inner before | inr same ↦ subst (λ z. z < end) same own ]
-        ]
+        | inl old ↦ inner (subst (λ z. is_in x z ≡ true) (with_old p between old) is)
+        | inr new ↦ elim (in_push_cases x p between (subst (λ z. is_in x z ≡ true) (with_new p between new) is)) [ inl before ↦ inner before | inr same ↦ subst (λ z. z < end) same own ]
+      ]
 
   -- each point of a list stands behind all that it is linked to, where some were seen before
   abbrev IsOrderly : List ℕ → List ℕ → Type 0
@@ -106,7 +106,7 @@ module _ (links : ℕ → List ℕ) where
   orderly-none seen (p ∷ points) cycle o earlier apart x here there =
       let alone = λ (own : is_in p cycle ≡ true). let y = earlier p own in apart y.0 y.1 (o.0 y.0 y.2) in
       let later = orderly-none (seen ++ p ∷ []) points cycle o.1 earlier
-          (λ z in_cycle in_seen. elim (in_push_cases z p seen in_seen) [ inl before ↦ apart z in_cycle before | inr same ↦ alone (subst (λ w. is_in w cycle ≡ true) (sym same) in_cycle) ]) in
+      (λ z in_cycle in_seen. elim (in_push_cases z p seen in_seen) [ inl before ↦ apart z in_cycle before | inr same ↦ alone (subst (λ w. is_in w cycle ≡ true) (sym same) in_cycle) ]) in
       elim (in_cons x p points there) [ inl same ↦ alone (subst (λ w. is_in w cycle ≡ true) (sym same) here) | inr rest ↦ later x here rest ]
 
   pub visits-acyclic : {points after : List ℕ} (cycle : List ℕ) (x : ℕ) → Visits links [] points after → ((x : ℕ) → is_in x cycle ≡ true → (y : ℕ) × (is_in y cycle ≡ true) × (is_in y (links x) ≡ true))

@@ -107,30 +107,37 @@ noting-known known old now new names s i at d within here n e =
     let apart : (k : ℕ) → (k ≡ at → ⊥) → links_of new k ≡ links_of now k = λ k other. ap (λ z. links_of z k) e ∙ get_or-set_other now at k _ [] other in
     let one = λ (other : Ref) (k : ℕ) (h : position (same_ref other) known ≡ Some k) (same : k ≡ at). position-one known other name at (subst (λ z. position (same_ref other) known ≡ Some z) same h) here in
     let foreign = λ (other : Ref) (k : ℕ) (h : position (same_ref other) known ≡ Some k) (differs : k ≡ at → ⊥). take-has-other names i d other within
-          (λ same. let two = subst (λ z. position (same_ref z) known ≡ Some k) same h in let both : Some k ≡ Some at = sym two ∙ here in differs (cc)) in
+    (λ same. let two = subst (λ z. position (same_ref z) known ≡ Some k) same h in let both : Some k ≡ Some at = sym two ∙ here in differs (cc)) in
     record {
       size = ap length e ∙ (length-set now at _ ∙ n.size);
-      below = record { below = λ p q h. elim (cases_eq p at) [
-        | inl same ↦ elim (split q (is_last (links_of now at) s) (subst (λ z. is_in q z ≡ true) (ap (links_of new) same ∙ placed) h)) [
-          | inl before ↦ n.below.below at q before
-          | inr last ↦ omega (arith, last)
-        ]
-        | inr other ↦ n.below.below p q (subst (λ z. is_in q z ≡ true) (apart p other) h)
-      ] };
-      notes = record { notes = λ other k h. elim (cases_eq k at) [
-        | inl same ↦ ap (links_of new) same ∙ (own ∙ (ap (λ z. links_of old z ++ s ∷ []) (sym same) ∙ ap (λ b. with_setter b s (links_of old k)) (sym (ap (λ z. has z (take (i + 1) names)) (one other k h same) ∙ take-has-self names i d within))))
-        | inr differs ↦ apart k differs ∙ (n.notes.notes other k h ∙ ap (λ b. with_setter b s (links_of old k)) (sym (foreign other k h differs)))
-      ] };
-      own = record { tells = λ other k h. elim (cases_eq k at) [
-        | inl same ↦ ap (λ z. is_last (links_of new z) s) same ∙ (ap (λ z. is_last z s) own ∙ (last-push (links_of old at) s ∙ sym (ap (λ z. has z (take (i + 1) names)) (one other k h same) ∙ take-has-self names i d within)))
-        | inr differs ↦ ap (λ z. is_last z s) (apart k differs) ∙ (n.own.tells other k h ∙ sym (foreign other k h differs))
-      ] };
+      below = record {
+        below = λ p q h. elim (cases_eq p at) [
+          | inl same ↦ elim (split q (is_last (links_of now at) s) (subst (λ z. is_in q z ≡ true) (ap (links_of new) same ∙ placed) h)) [
+            | inl before ↦ n.below.below at q before
+            | inr last ↦ omega (arith, last)
+          ]
+          | inr other ↦ n.below.below p q (subst (λ z. is_in q z ≡ true) (apart p other) h)
+        ];
+      };
+      notes = record {
+        notes = λ other k h. elim (cases_eq k at) [
+          | inl same ↦ ap (links_of new) same ∙ (own ∙ (ap (λ z. links_of old z ++ s ∷ []) (sym same) ∙ ap (λ b. with_setter b s (links_of old k)) (sym (ap (λ z. has z (take (i + 1) names)) (one other k h same) ∙ take-has-self names i d within))))
+          | inr differs ↦ apart k differs ∙ (n.notes.notes other k h ∙ ap (λ b. with_setter b s (links_of old k)) (sym (foreign other k h differs)))
+        ];
+      };
+      own = record {
+        tells = λ other k h. elim (cases_eq k at) [
+          | inl same ↦ ap (λ z. is_last (links_of new z) s) same ∙ (ap (λ z. is_last z s) own ∙ (last-push (links_of old at) s ∙ sym (ap (λ z. has z (take (i + 1) names)) (one other k h same) ∙ take-has-self names i d within)))
+          | inr differs ↦ ap (λ z. is_last z s) (apart k differs) ∙ (n.own.tells other k h ∙ sym (foreign other k h differs))
+        ];
+      };
     }
   where
     step : (b : Bool) → is_last (links_of now at) s ≡ b → links_of now at ≡ with_setter b s (links_of old at)
         → (if is_last (links_of now at) s then links_of now at else links_of now at ++ s ∷ []) ≡ links_of old at ++ s ∷ []
     step true last is = ap (λ b. cond b (links_of now at) (links_of now at ++ s ∷ [])) last ∙ is
     step false last is = ap (λ b. cond b (links_of now at) (links_of now at ++ s ∷ [])) last ∙ ap (λ z. z ++ s ∷ []) is
+
     split : (q : ℕ) (b : Bool) → is_in q (if b then links_of now at else links_of now at ++ s ∷ []) ≡ true → (is_in q (links_of now at) ≡ true) ⊎ (s ≡ q)
     split q true h = inl h
     split q false h = in_push_cases q s (links_of now at) h
@@ -155,9 +162,9 @@ module _ (known : List Ref) (count : ℕ) (test : Ref → Bool) where
 
   needed-unknown : (name : Ref) → position (same_ref name) known ≡ None → needed (name ∷ []) ≡ []
   needed-unknown name h = elim (cases_Bool (test name)) [
-      | inl t ↦ ap (points_of known count) (filter-yes test name [] t) ∙ ap (λ z. filter_map (λ o. o) (option_map (λ k. count + k) z ∷ [])) h
-      | inr f ↦ needed-foreign name f
-    ]
+    | inl t ↦ ap (points_of known count) (filter-yes test name [] t) ∙ ap (λ z. filter_map (λ o. o) (option_map (λ k. count + k) z ∷ [])) h
+    | inr f ↦ needed-foreign name f
+  ]
 
   needed-one : (name : Ref) (at : ℕ) → position (same_ref name) known ≡ Some at → test name ≡ true → needed (name ∷ []) ≡ (count + at) ∷ []
   needed-one name at h t = ap (points_of known count) (filter-yes test name [] t) ∙ ap (λ z. filter_map (λ o. o) (option_map (λ k. count + k) z ∷ [])) h

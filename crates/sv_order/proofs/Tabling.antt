@@ -32,15 +32,15 @@ keeps-none names = record { keeps = λ name h. h; adds = λ name h. absurd (fals
 
 insert-keeps : (x name : Ref) (names : List Ref) → has name names ≡ true → has name (insert_key same_ref names x) ≡ true
 insert-keeps x name names h = elim (cases_Bool (has x names)) [
-    | inl old ↦ ap (λ b. has name (cond b names (names ++ x ∷ []))) old ∙ h
-    | inr new ↦ ap (λ b. has name (cond b names (names ++ x ∷ []))) new ∙ (has-append name names (x ∷ []) ∙ or_left _ _ h)
-  ]
+  | inl old ↦ ap (λ b. has name (cond b names (names ++ x ∷ []))) old ∙ h
+  | inr new ↦ ap (λ b. has name (cond b names (names ++ x ∷ []))) new ∙ (has-append name names (x ∷ []) ∙ or_left _ _ h)
+]
 
 insert-adds : (x : Ref) (names : List Ref) → has x (insert_key same_ref names x) ≡ true
 insert-adds x names = elim (cases_Bool (has x names)) [
-    | inl old ↦ ap (λ b. has x (cond b names (names ++ x ∷ []))) old ∙ old
-    | inr new ↦ ap (λ b. has x (cond b names (names ++ x ∷ []))) new ∙ (has-append x names (x ∷ []) ∙ or_right (has x names) _ (has-head x x [] refl))
-  ]
+  | inl old ↦ ap (λ b. has x (cond b names (names ++ x ∷ []))) old ∙ old
+  | inr new ↦ ap (λ b. has x (cond b names (names ++ x ∷ []))) new ∙ (has-append x names (x ∷ []) ∙ or_right (has x names) _ (has-head x x [] refl))
+]
 
 -- one more name is added
 pub keeps-more : (old more now new : List Ref) (i : ℕ) (d : Ref) → i < length more → Keeps old (take i more) now → new ≡ insert_key ref_eq now (get_or more i d) → Keeps old (take (i + 1) more) new
@@ -81,6 +81,7 @@ sets-take list i x s within is =
     last [] (suc s) e = absurd (omega (arith, e))
     last (y ∷ front) zero e = absurd (omega (arith, e))
     last (y ∷ front) (suc s) e = last front s (omega (arith, e))
+
     apart : (front : List Reads) (s : ℕ) → (length front ≡ s → ⊥) → sets_of (front ++ x ∷ []) s ≡ sets_of front s
     apart [] zero other = absurd (other refl)
     apart [] (suc s) other = refl

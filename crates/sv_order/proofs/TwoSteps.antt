@@ -64,15 +64,15 @@ module _ (count : ℕ) where
 
   only-with-below : (p : ℕ) (points : List ℕ) → p < count → only (with_point p points) ≡ with_point p (only points)
   only-with-below p points lt = elim (cases_Bool (is_in p points)) [
-      | inl h ↦ ap only (with_old p points h) ∙ sym (with_old p (only points) (in-only p points lt h))
-      | inr h ↦ ap only (with_new p points h) ∙ (only-push-below p points lt ∙ sym (with_new p (only points) (only-absent p points h)))
-    ]
+    | inl h ↦ ap only (with_old p points h) ∙ sym (with_old p (only points) (in-only p points lt h))
+    | inr h ↦ ap only (with_new p points h) ∙ (only-push-below p points lt ∙ sym (with_new p (only points) (only-absent p points h)))
+  ]
 
   only-with-above : (p : ℕ) (points : List ℕ) → count ≤ p → only (with_point p points) ≡ only points
   only-with-above p points le = elim (cases_Bool (is_in p points)) [
-      | inl h ↦ ap only (with_old p points h)
-      | inr h ↦ ap only (with_new p points h) ∙ only-push-above p points le
-    ]
+    | inl h ↦ ap only (with_old p points h)
+    | inr h ↦ ap only (with_new p points h) ∙ only-push-above p points le
+  ]
 
   module _ (before links : ℕ → List ℕ) (steps : IsTwoStep count before links) where
     -- each name replaced by the statements that assign it
@@ -102,14 +102,14 @@ module _ (count : ℕ) where
 
     closed-with : (p : ℕ) (placed : List ℕ) → IsClosed placed → ((q : ℕ) → is_in q (links p) ≡ true → is_in q placed ≡ true) → IsClosed (with_point p placed)
     closed-with p placed c all = elim (cases_Bool (is_in p placed)) [
-        | inl h ↦ subst IsClosed (sym (with_old p placed h)) c
-        | inr h ↦ subst IsClosed (sym (with_new p placed h)) (record {
-          closed = λ x q here link. elim (in_push_cases x p placed here) [
-            | inl before ↦ in_left q placed (p ∷ []) (c.closed x q before link)
-            | inr same ↦ in_left q placed (p ∷ []) (all q (subst (λ z. is_in q (links z) ≡ true) (sym same) link))
-          ];
-        })
-      ]
+      | inl h ↦ subst IsClosed (sym (with_old p placed h)) c
+      | inr h ↦ subst IsClosed (sym (with_new p placed h)) (record {
+        closed = λ x q here link. elim (in_push_cases x p placed here) [
+          | inl before ↦ in_left q placed (p ∷ []) (c.closed x q before link)
+          | inr same ↦ in_left q placed (p ∷ []) (all q (subst (λ z. is_in q (links z) ≡ true) (sym same) link))
+        ];
+      })
+    ]
 
     again-all : (xs ys placed after : List ℕ) → ((q : ℕ) → is_in q xs ≡ true → is_in q placed ≡ true) → Visits before placed ys after → Visits before placed (xs ++ ys) after
     again-all [] ys placed after all v = v
@@ -128,7 +128,7 @@ module _ (count : ℕ) where
           statements = elim (cases_lt p count) [
             | inl below ↦ subst (λ z. Visits before (only placed) z (only after)) (sym (expand-below p points below)) (again (in-only p placed below h) rest.statements)
             | inr above ↦ subst (λ z. Visits before (only placed) z (only after)) (sym (expand-above p points above))
-              (again-all (links p) (expand points) (only placed) (only after) (λ q here. in-only q placed (steps.up p q above here) (c.closed p q h here)) rest.statements)
+                (again-all (links p) (expand points) (only placed) (only after) (λ q here. in-only q placed (steps.up p q above here) (c.closed p q h here)) rest.statements)
           ];
           is_closed = rest.is_closed;
         }
@@ -138,13 +138,13 @@ module _ (count : ℕ) where
         record {
           statements = elim (cases_lt p count) [
             | inl below ↦ (let own : expand (links p) ≡ before p = expand-names (links p) (λ q here. steps.down p q below here) ∙ steps.two p below in
-              subst (λ z. Visits before (only placed) z (only after)) (sym (expand-below p points below))
-              (first (only-absent p placed h) (subst (λ z. Visits before (only placed) z (only between)) own inner.statements)
-              (subst (λ z. Visits before z (expand points) (only after)) (only-with-below p between below) rest.statements)))
+                subst (λ z. Visits before (only placed) z (only after)) (sym (expand-below p points below))
+                (first (only-absent p placed h) (subst (λ z. Visits before (only placed) z (only between)) own inner.statements)
+                (subst (λ z. Visits before z (expand points) (only after)) (only-with-below p between below) rest.statements)))
             | inr above ↦ (let own : expand (links p) ≡ links p = expand-statements (links p) (λ q here. steps.up p q above here) in
-              subst (λ z. Visits before (only placed) z (only after)) (sym (expand-above p points above))
-              (visits-append (subst (λ z. Visits before (only placed) z (only between)) own inner.statements)
-              (subst (λ z. Visits before z (expand points) (only after)) (only-with-above p between above) rest.statements)))
+                subst (λ z. Visits before (only placed) z (only after)) (sym (expand-above p points above))
+                (visits-append (subst (λ z. Visits before (only placed) z (only between)) own inner.statements)
+                (subst (λ z. Visits before z (expand points) (only after)) (only-with-above p between above) rest.statements)))
           ];
           is_closed = rest.is_closed;
         }

@@ -15,7 +15,11 @@ use sv_visits::unlinked;
 
 /// The links of statements and names. A statement is linked to each name that it reads and doesn't assign, and a name to the
 /// statements that assign it.
-pub(crate) fn statement_links(alloc: Global, list: &[Reads], names: &IndexSet<Ref>) -> Result<Vec<Items<u32>>, NoMemory>
+pub(crate) fn statement_links(
+    alloc: Global,
+    list: &[Reads],
+    names: &IndexSet<Ref>,
+) -> Result<Vec<Items<u32>>, NoMemory>
     requires knows { KnowsAll list.now names.now.keys }
     requires few { length list.now + length names.now.keys < 2 ^ 32 }
     ensures size { IfOk result (λ links. length links.items ≡ length list.now + length names.now.keys) }
@@ -35,7 +39,12 @@ pub(crate) fn statement_links(alloc: Global, list: &[Reads], names: &IndexSet<Re
 }
 
 // Notes a statement as the last that assigns each of some names.
-fn note_setter(names: &IndexSet<Ref>, setters: &mut Vec<Items<u32>>, sets: &[Ref], statement: u32) -> Result<(), NoMemory>
+fn note_setter(
+    names: &IndexSet<Ref>,
+    setters: &mut Vec<Items<u32>>,
+    sets: &[Ref],
+    statement: u32,
+) -> Result<(), NoMemory>
     requires size { length setters.old.items ≡ length names.now.keys }
     requires earlier { AreBelow setters.old.items statement }
     ensures size { length setters.new.items ≡ length names.now.keys }

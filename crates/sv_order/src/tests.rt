@@ -13,6 +13,12 @@ fn plain(alloc: Global, names: &[u32]) -> Result<RefList, NoMemory> {
     Ok(refs)
 }
 
+fn store(alloc: Global, name: u32) -> Result<RefList, NoMemory> {
+    let mut refs = RefList::new(alloc);
+    refs.push(Ref::Store(Name(name)))?;
+    Ok(refs)
+}
+
 // Statements by the names that each reads and those that it assigns.
 fn statements(alloc: Global, list: &[(&[u32], &[u32])]) -> Result<Vec<Reads>, NoMemory> {
     let mut statements = Vec::new(alloc);
@@ -65,7 +71,13 @@ fn the_cycle_begins_with_the_first_statement_on_any(rt: HostRuntime) -> Result<(
     let (a, b, c, d) = (0, 1, 2, 3);
     let two = statements(
         alloc,
-        &[(&[a], &[]), (&[c], &[d]), (&[d], &[c]), (&[b], &[a]), (&[a], &[b])],
+        &[
+            (&[a], &[]),
+            (&[c], &[d]),
+            (&[d], &[c]),
+            (&[b], &[a]),
+            (&[a], &[b]),
+        ],
     )?;
     let cycle = vec![in alloc; 1, 2]?;
     assert_eq!(rt; order(alloc, &two).err(), Some(OrderError::Cycle(cycle)));
@@ -99,16 +111,19 @@ fn all_that_assign_a_name_run_before_in_source_order(rt: HostRuntime) -> Result<
 #[test]
 fn a_store_is_not_the_variable_that_holds_it(rt: HostRuntime) -> Result<(), Fail> {
     let alloc = rt.alloc();
-    let mut list = statements(alloc, &[(&[], &[]), (&[], &[0])])?;
-    let mut stores = RefList::new(alloc);
-    stores.push(Ref::Store(Name(0)))?;
+    let mut list = Vec::new(alloc);
+    list.push(Reads {
+        reads: store(alloc, 0)?,
+        sets: RefList::new(alloc),
+    })?;
     list.push(Reads {
         reads: RefList::new(alloc),
-        sets: stores,
+        sets: plain(alloc, &[0])?,
     })?;
-    let mut reads = RefList::new(alloc);
-    reads.push(Ref::Store(Name(0)))?;
-    list[0].reads = reads;
+    list.push(Reads {
+        reads: RefList::new(alloc),
+        sets: store(alloc, 0)?,
+    })?;
     assert_eq!(rt; order(alloc, &list)?.as_slice(), [2, 0, 1].as_slice());
     Ok(())
 }

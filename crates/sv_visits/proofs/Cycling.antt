@@ -49,15 +49,15 @@ leads-split links p (q ∷ points) end x h here =
 pub cycle-path : (links : List (List ℕ)) (points : List ℕ) (x : ℕ) → IsCycle (IsLink links) points → is_in x points ≡ true → Path (links_of links) x x
 cycle-path links [] x h here = absurd h
 cycle-path links (p ∷ points) x h here = elim (in_cons x p points here) [
-    | inl same ↦ subst (λ z. Path (links_of links) z z) same (leads-path links p points p h)
-    | inr later ↦ (let ways = leads-split links p points p x h later in path-join ways.1 ways.0)
-  ]
+  | inl same ↦ subst (λ z. Path (links_of links) z z) same (leads-path links p points p h)
+  | inr later ↦ (let ways = leads-split links p points p x h later in path-join ways.1 ways.0)
+]
 
 linked_within : (links : List (List ℕ)) (p q : ℕ) → IsLink links p q → p < length links
 linked_within links p q h = elim (cases_lt p (length links)) [
-    | inl lt ↦ lt
-    | inr past ↦ absurd (false≢true (subst (λ z. is_in q z ≡ true) (get_or_past links p [] past) h))
-  ]
+  | inl lt ↦ lt
+  | inr past ↦ absurd (false≢true (subst (λ z. is_in q z ≡ true) (get_or_past links p [] past) h))
+]
 
 -- what leads on is there
 pub path_within : (links : List (List ℕ)) (p q : ℕ) → Path (links_of links) p q → p < length links
@@ -78,9 +78,9 @@ none-next links start below off = record { none = λ p lt path. elim (cases_eq p
 
 pub none_within : (links : List (List ℕ)) (start : ℕ) → NoneBelow links start → (p : ℕ) × Path (links_of links) p p → start < length links
 none_within links start below cyclic = elim (cases_lt cyclic.0 start) [
-    | inl lt ↦ absurd (below.none cyclic.0 lt cyclic.1)
-    | inr above ↦ omega (arith, above, path_within links cyclic.0 cyclic.0 cyclic.1)
-  ]
+  | inl lt ↦ absurd (below.none cyclic.0 lt cyclic.1)
+  | inr above ↦ omega (arith, above, path_within links cyclic.0 cyclic.0 cyclic.1)
+]
 
 pub first-found : (links : List (List ℕ)) (start : ℕ) (cycle : List ℕ) → NoneBelow links start → IsCycleOf links start cycle → IsFirstCycle (IsLink links) cycle
 first-found links start [] below c = absurd c.0

@@ -38,10 +38,12 @@ module _ (links : List (List ℕ)) where
   pub flooding-end : (groups : List ℕ) (group point : ℕ) → IsFlooding links groups [] group point [] → IsFlooded links groups (group + 1)
   flooding-end groups group point f = record {
     size = f.size;
-    falls = record { falls = λ p q link. elim (f.falls p q link) [
-      | inl le ↦ le
-      | inr later ↦ elim later [ inl here ↦ absurd (false≢true here) | inr own ↦ absurd (false≢true own.1) ]
-    ] };
+    falls = record {
+      falls = λ p q link. elim (f.falls p q link) [
+        | inl le ↦ le
+        | inr later ↦ elim later [ inl here ↦ absurd (false≢true here) | inr own ↦ absurd (false≢true own.1) ]
+      ];
+    };
     known = λ p. elim (f.known p) [ inl le ↦ inl (omega (arith, le)) | inr free ↦ inr free ];
   }
 

@@ -32,9 +32,9 @@ in_push p xs = in_right p xs (p ∷ []) (in_head p [])
 
 pub in_push_cases : (p x : ℕ) (xs : List ℕ) → is_in p (xs ++ x ∷ []) ≡ true → (is_in p xs ≡ true) ⊎ (x ≡ p)
 in_push_cases p x xs h = elim (in_parts p xs (x ∷ []) h) [
-    | inl e ↦ inl e
-    | inr e ↦ elim (in_cons p x [] e) [ inl same ↦ inr same | inr none ↦ absurd (let no : is_in p [] ≡ true = none in cc) ]
-  ]
+  | inl e ↦ inl e
+  | inr e ↦ elim (in_cons p x [] e) [ inl same ↦ inr same | inr none ↦ absurd (let no : is_in p [] ≡ true = none in cc) ]
+]
 
 pub with_new : (p : ℕ) (xs : List ℕ) → is_in p xs ≡ false → with_point p xs ≡ xs ++ p ∷ []
 with_new p xs h = ap (λ b. cond b xs (xs ++ p ∷ [])) h
@@ -44,18 +44,18 @@ with_old p xs h = ap (λ b. cond b xs (xs ++ p ∷ [])) h
 
 pub in_with : (p : ℕ) (xs : List ℕ) → is_in p (with_point p xs) ≡ true
 in_with p xs = elim (cases_Bool (is_in p xs)) [
-    | inl h ↦ ap (is_in p) (with_old p xs h) ∙ h
-    | inr h ↦ ap (is_in p) (with_new p xs h) ∙ in_push p xs
-  ]
+  | inl h ↦ ap (is_in p) (with_old p xs h) ∙ h
+  | inr h ↦ ap (is_in p) (with_new p xs h) ∙ in_push p xs
+]
 
 pub kept_with : (q p : ℕ) (xs : List ℕ) → is_in q xs ≡ true → is_in q (with_point p xs) ≡ true
 kept_with q p xs here = elim (cases_Bool (is_in p xs)) [
-    | inl h ↦ ap (is_in q) (with_old p xs h) ∙ here
-    | inr h ↦ ap (is_in q) (with_new p xs h) ∙ in_left q xs (p ∷ []) here
-  ]
+  | inl h ↦ ap (is_in q) (with_old p xs h) ∙ here
+  | inr h ↦ ap (is_in q) (with_new p xs h) ∙ in_left q xs (p ∷ []) here
+]
 
 pub pushed-other : (p x : ℕ) (xs : List ℕ) → (x ≡ p → ⊥) → is_in p (xs ++ x ∷ []) ≡ is_in p xs
 pushed-other p x xs other = elim (cases_Bool (is_in p xs)) [
-    | inl h ↦ in_left p xs (x ∷ []) h ∙ sym h
-    | inr h ↦ false_from_ne_true _ (λ here. elim (in_push_cases p x xs here) [ inl e ↦ (let no = e in cc) | inr same ↦ other same ]) ∙ sym h
-  ]
+  | inl h ↦ in_left p xs (x ∷ []) h ∙ sym h
+  | inr h ↦ false_from_ne_true _ (λ here. elim (in_push_cases p x xs here) [ inl e ↦ (let no = e in cc) | inr same ↦ other same ]) ∙ sym h
+]

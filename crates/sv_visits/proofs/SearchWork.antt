@@ -12,9 +12,6 @@ use Rattle.sv_visits.proofs.Underway.{behind}
 use Rattle.sv_visits.proofs.Work.{few-links, less-entered}
 
 module _ (links : List (List ℕ)) where
-
-
-
   pub less-done : (met : List Bool) (xs : List Frame) (f : Frame) → search_left links met xs < search_left links met (xs ++ f ∷ [])
   less-done met xs f = omega (arith, sum_by_push (work_of links) xs f)
 

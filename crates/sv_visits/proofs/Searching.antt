@@ -77,9 +77,9 @@ module _ (links : List (List ℕ)) where
 
   pends-one : (p q : ℕ) (f : Frame) → pends links p q (f ∷ []) ≡ true → (f.point ≡ p) × (is_in q (rest_of links f) ≡ true)
   pends-one p q f h = elim (or_cases (f.point == p && is_in q (rest_of links f)) false h) [
-      | inl e ↦ (let parts = and_parts _ _ e in (eqb-true f.point p parts.0, parts.1))
-      | inr e ↦ absurd (false≢true e)
-    ]
+    | inl e ↦ (let parts = and_parts _ _ e in (eqb-true f.point p parts.0, parts.1))
+    | inr e ↦ absurd (false≢true e)
+  ]
 
   pends-by : (p q : ℕ) (f : Frame) → f.point ≡ p → is_in q (rest_of links f) ≡ true → pends links p q (f ∷ []) ≡ true
   pends-by p q f same here = or_left _ _ (and_from _ _ (eq-eqb f.point p same) here)
@@ -91,17 +91,17 @@ module _ (links : List (List ℕ)) where
       elim (pends-parts p q xs (f ∷ []) h) [
         | inl e ↦ inl (pends-left p q xs (behind f ∷ []) e)
         | inr e ↦ (let one = pends-one p q f e in
-          elim (in_cons q next (drop (suc f.next) (links_of links f.point)) (subst (λ z. is_in q z ≡ true) r.0 one.1)) [
-            | inl same ↦ inr same
-            | inr later ↦ inl (pends-right p q xs (behind f ∷ []) (pends-by p q (behind f) one.0 (subst (λ z. is_in q (drop z (links_of links f.point)) ≡ true) (sym (add-one f.next)) later)))
-          ])
+            elim (in_cons q next (drop (suc f.next) (links_of links f.point)) (subst (λ z. is_in q z ≡ true) r.0 one.1)) [
+              | inl same ↦ inr same
+              | inr later ↦ inl (pends-right p q xs (behind f ∷ []) (pends-by p q (behind f) one.0 (subst (λ z. is_in q (drop z (links_of links f.point)) ≡ true) (sym (add-one f.next)) later)))
+            ])
       ]
 
   pends-front : (p q : ℕ) (xs : List Frame) (f : Frame) → link_at links f ≡ None → pends links p q (xs ++ f ∷ []) ≡ true → pends links p q xs ≡ true
   pends-front p q xs f last h = elim (pends-parts p q xs (f ∷ []) h) [
-      | inl e ↦ e
-      | inr e ↦ absurd (let one = pends-one p q f e in let no : is_in q [] ≡ true = subst (λ z. is_in q z ≡ true) (rest-none (links_of links f.point) f.next last).0 one.1 in cc)
-    ]
+    | inl e ↦ e
+    | inr e ↦ absurd (let one = pends-one p q f e in let no : is_in q [] ≡ true = subst (λ z. is_in q z ≡ true) (rest-none (links_of links f.point) f.next last).0 one.1 in cc)
+  ]
 
   -- ---- the steps
 

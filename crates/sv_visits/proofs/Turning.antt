@@ -2,7 +2,7 @@
 use Rattle.std.proofs.Common.{◌≡◌, ℕ, zero, suc, ◌+◌, ◌<◌, ◌≤◌, Bool, true, false, List, [], ◌∷◌, ◌++◌, length, take, set, get_or, replicate, refl, sym, ap, ◌∙◌, inl, inr, ◌⊎◌, subst, arith, add-one}
 use Rattle.std.specs.Prelude.{◌==◌}
 use Rattle.std.proofs.lemmas.Bool.{cases_eq, cases_lt, false≢true}
-use Rattle.std.proofs.lemmas.List.{get_or-set_same, get_or-set_other, length-set, take_more, take_all, get_or-take, get_or_past, get_or_push, get_or_append_left, get_or_read, length_push, length-take-le}
+use Rattle.std.proofs.lemmas.List.{get_or-set_same, get_or-set_other, length-set, take_more, take_all, get_or-take, get_or_past, get_or_push, get_or_append_left, get_or_read, length_push, length-replicate, length-take-le}
 use Rattle.sv_visits.specs.Links.{is_in, links_of, IsWhole, IsLink, AddsLinks, IsTurned}
 use Rattle.sv_visits.specs.Path.{Path, one, more}
 use Rattle.sv_visits.proofs.Points.{in_head, in_tail, in_left, in_push, in_push_cases, in_parts}
@@ -55,6 +55,7 @@ take-links links i own within is p =
   where
     ne_lt : (i p : ℕ) → i ≤ p → (i ≡ p → ⊥) → i < p
     ne_lt i p le ne = omega (arith, ne)
+
     apart : (p < i) ⊎ (i ≤ p) → length (take i links) ≡ i → (p ≡ i → ⊥) → links_of (take i links ++ own ∷ []) p ≡ links_of (take i links) p
     apart (inl below) size other = get_or_append_left (take i links) (own ∷ []) [] p (omega arith)
     apart (inr above) size other =
@@ -107,3 +108,10 @@ path-push r (more h path) last = more h (path-push r path last)
 pub path-turn : (links turned : List (List ℕ)) (p q : ℕ) → IsTurned links turned → Path (links_of links) p q → Path (links_of turned) q p
 path-turn links turned p q t (one h) = one (t.there p q h)
 path-turn links turned p q t (more {q = r} h path) = path-push p (path-turn links turned r q t path) (t.there p r h)
+
+-- points without links
+pub unlinked-whole : (links now : List (List ℕ)) (n : ℕ) → now ≡ links → links ≡ replicate n [] → IsWhole now
+unlinked-whole links now n same e = record { within = λ p q h. absurd (unlinked-none n p q (subst (λ z. IsLink z p q) (same ∙ e) h)) }
+
+pub unlinked-size : (links now : List (List ℕ)) (n : ℕ) → now ≡ links → links ≡ replicate n [] → length now ≡ n
+unlinked-size links now n same e = ap length (same ∙ e) ∙ length-replicate n []

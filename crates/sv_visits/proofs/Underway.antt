@@ -41,9 +41,9 @@ start-underway links was walk start stack w within new known enters =
     record {
       marked = subst (IsWalk links walk) (sym top) (new-walk links was walk start [] w within new tt e.1 same_order);
       visits = λ calm after ends.
-        let f = subst (λ z. Finishes links walk.order.items z after) top ends in
-        let v = subst (λ z. Visits (links_of links) z (links_of links start) f.0) same_order f.1 in
-        subst (λ z. Visits (links_of links) was.order.items (start ∷ []) z) f.2 (first absent v none);
+          let f = subst (λ z. Finishes links walk.order.items z after) top ends in
+          let v = subst (λ z. Visits (links_of links) z (links_of links start) f.0) same_order f.1 in
+          subst (λ z. Visits (links_of links) was.order.items (start ∷ []) z) f.2 (first absent v none);
       earlier = λ calm. sym same_cyclic ∙ calm;
       known = λ cyclic. known (sym same_cyclic ∙ cyclic);
     }
@@ -57,7 +57,7 @@ place-underway links was walk walk' start f below u last marks order cyclic =
     record {
       marked = place-walk links walk walk' f below u.marked marks order;
       visits = λ calm after ends. u.visits (sym cyclic ∙ calm) after
-        (walk.order.items, subst (λ z. Visits (links_of links) walk.order.items z walk.order.items) (sym done) none, subst (λ z. Finishes links z below after) placed ends);
+          (walk.order.items, subst (λ z. Visits (links_of links) walk.order.items z walk.order.items) (sym done) none, subst (λ z. Finishes links z below after) placed ends);
       earlier = λ calm. u.earlier (sym cyclic ∙ calm);
       known = λ is. u.known (sym cyclic ∙ is);
     }
@@ -76,11 +76,11 @@ enter-underway links was walk walk' start q f below stack stack' whole u next to
     record {
       marked = subst (IsWalk links walk') (sym top) (new-walk links walk walk' q (behind f ∷ below) marked (whole.within f.point q r.1) new r.1 e.1 same_order);
       visits = λ calm after ends.
-        let g = subst (λ z. Finishes links walk'.order.items z after) top ends in
-        let v = subst (λ z. Visits (links_of links) z (links_of links q) g.0) same_order g.1 in
-        let w = subst (λ z. Visits (links_of links) (with_point q g.0) (drop z (links_of links f.point)) g.2.0) (add-one f.next) g.2.1 in
-        let joined : Visits (links_of links) walk.order.items (q ∷ drop (suc f.next) (links_of links f.point)) g.2.0 = first absent v w in
-        u.visits (sym same_cyclic ∙ calm) after (g.2.0, subst (λ z. Visits (links_of links) walk.order.items z g.2.0) (sym r.0) joined, g.2.2);
+          let g = subst (λ z. Finishes links walk'.order.items z after) top ends in
+          let v = subst (λ z. Visits (links_of links) z (links_of links q) g.0) same_order g.1 in
+          let w = subst (λ z. Visits (links_of links) (with_point q g.0) (drop z (links_of links f.point)) g.2.0) (add-one f.next) g.2.1 in
+          let joined : Visits (links_of links) walk.order.items (q ∷ drop (suc f.next) (links_of links f.point)) g.2.0 = first absent v w in
+          u.visits (sym same_cyclic ∙ calm) after (g.2.0, subst (λ z. Visits (links_of links) walk.order.items z g.2.0) (sym r.0) joined, g.2.2);
       earlier = λ calm. u.earlier (sym same_cyclic ∙ calm);
       known = λ cyclic. u.known (sym same_cyclic ∙ cyclic);
     }
@@ -114,9 +114,9 @@ enter-underway links was walk walk' start q f below stack stack' whole u next to
     let still : IsUnderway links was start walk (behind f ∷ below) = record {
       marked = marked;
       visits = λ calm after ends.
-        let w = subst (λ z. Visits (links_of links) walk.order.items (drop z (links_of links f.point)) ends.0) (add-one f.next) ends.1 in
-        let joined : Visits (links_of links) walk.order.items (q ∷ drop (suc f.next) (links_of links f.point)) ends.0 = again present w in
-        u.visits calm after (ends.0, subst (λ z. Visits (links_of links) walk.order.items z ends.0) (sym r.0) joined, ends.2);
+          let w = subst (λ z. Visits (links_of links) walk.order.items (drop z (links_of links f.point)) ends.0) (add-one f.next) ends.1 in
+          let joined : Visits (links_of links) walk.order.items (q ∷ drop (suc f.next) (links_of links f.point)) ends.0 = again present w in
+          u.visits calm after (ends.0, subst (λ z. Visits (links_of links) walk.order.items z ends.0) (sym r.0) joined, ends.2);
       earlier = u.earlier;
       known = u.known;
     } in
@@ -160,7 +160,7 @@ pub walked-more : (links : List (List ℕ)) (walk walk' : Walk) (start : ℕ) �
 walked-more links walk walk' start w marked visits earlier known = record {
   marked = marked;
   visits = λ calm. subst (λ z. Visits (links_of links) [] z walk'.order.items) (sym (ap (range_with_len 0) (add-one start) ∙ (range-more 0 start ∙ ap (λ z. range_with_len 0 start ++ z ∷ []) (omega arith))))
-    (visits-append (w.visits (earlier calm)) (visits calm));
+      (visits-append (w.visits (earlier calm)) (visits calm));
   known = known;
 }
 

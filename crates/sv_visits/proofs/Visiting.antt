@@ -21,10 +21,10 @@ visits-keep q (first {p = p} {between = between} h v w) here = visits-keep q w (
 pub visits-reach : {links : ℕ → List ℕ} {points placed after : List ℕ} (q : ℕ) → Visits links placed points after → is_in q points ≡ true → is_in q after ≡ true
 visits-reach q none here = absurd (let no : is_in q [] ≡ true = here in cc)
 visits-reach q (again {p = p} {points = rest} {placed = placed} h v) here = elim (in_cons q p rest here) [
-    | inl e ↦ visits-keep q v (subst (λ z. is_in z placed ≡ true) e h)
-    | inr e ↦ visits-reach q v e
-  ]
+  | inl e ↦ visits-keep q v (subst (λ z. is_in z placed ≡ true) e h)
+  | inr e ↦ visits-reach q v e
+]
 visits-reach q (first {p = p} {points = rest} {between = between} h v w) here = elim (in_cons q p rest here) [
-    | inl e ↦ visits-keep q w (subst (λ z. is_in z (with_point p between) ≡ true) e (in_with p between))
-    | inr e ↦ visits-reach q w e
-  ]
+  | inl e ↦ visits-keep q w (subst (λ z. is_in z (with_point p between) ≡ true) e (in_with p between))
+  | inr e ↦ visits-reach q w e
+]

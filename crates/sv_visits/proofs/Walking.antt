@@ -56,9 +56,9 @@ opens Done h = absurd (omega arith)
 -- a point that has a frame leads to what the top one leads to
 pub line-path : (links : List (List ℕ)) (f : Frame) (below : List Frame) (p q : ℕ) → IsLine links (f ∷ below) → 0 < frames_of p (f ∷ below) → Path (links_of links) f.point q → Path (links_of links) p q
 line-path links f [] p q line here path = elim (cases_eq f.point p) [
-    | inl same ↦ subst (λ z. Path (links_of links) z q) same path
-    | inr other ↦ absurd (omega (arith, frames-below p f [] other))
-  ]
+  | inl same ↦ subst (λ z. Path (links_of links) z q) same path
+  | inr other ↦ absurd (omega (arith, frames-below p f [] other))
+]
 line-path links f (g ∷ lower) p q line here path =
     let deeper = line-path links g lower p q line.1 in
     elim (cases_eq f.point p) [
@@ -71,9 +71,9 @@ line-path links f (g ∷ lower) p q line here path =
 changed : (marks marks' : List Mark) (q : ℕ) (m : Mark) → marks' ≡ set marks q m → q < length marks → (p : ℕ) →
     ((p ≡ q) × (mark_of marks' p ≡ m)) ⊎ ((p ≡ q → ⊥) × (mark_of marks' p ≡ mark_of marks p))
 changed marks marks' q m e within p = elim (cases_eq p q) [
-    | inl same ↦ inl (same, ap (λ z. mark_of z p) e ∙ marked-same marks p q m within same)
-    | inr other ↦ inr (other, ap (λ z. mark_of z p) e ∙ marked-other marks p q m other)
-  ]
+  | inl same ↦ inl (same, ap (λ z. mark_of z p) e ∙ marked-same marks p q m within same)
+  | inr other ↦ inr (other, ap (λ z. mark_of z p) e ∙ marked-other marks p q m other)
+]
 
 -- a point with a mark other than the first one is there
 marked_within : (marks : List Mark) (p : ℕ) → (mark_of marks p ≡ New → ⊥) → p < length marks

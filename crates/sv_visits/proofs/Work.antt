@@ -54,7 +54,7 @@ module _ (links : List (List ℕ)) where
       let was = ap (λ x. cond {A = ℕ} (is_new x) 1 0) new in
       let count : count_by is_new walk'.marks.items + 1 ≡ count_by is_new walk.marks.items = ap (λ z. count_by is_new z + 1) e.1 ∙ omega (arith, change, was) in
       let less = less-entered (count_by is_new walk.marks.items) (count_by is_new walk'.marks.items) (sum_by length links + 2) (sum_by (work_of links) (behind f ∷ below)) (work_of links entered) count
-          (omega (arith, few-links q here)) in
+      (omega (arith, few-links q here)) in
       subst (λ z. work_left links walk' z < work_left links walk (f ∷ below)) (sym top) (omega (arith, less, work-cons entered (behind f ∷ below), less-behind walk f below r.2))
   less-met walk walk' q f below stack stack' w whole next tops Open opened e =
       let r = rest-some (links_of links f.point) f.next q next in

@@ -13,7 +13,11 @@ use sv_base::NoMemory;
 use sv_list::Items;
 
 /// The first cycle: it begins with the first point that lies on any.
-pub(crate) fn first_cycle(alloc: Global, links: &[Items<u32>], groups: &[usize]) -> Result<Vec<u32>, NoMemory>
+pub(crate) fn first_cycle(
+    alloc: Global,
+    links: &[Items<u32>],
+    groups: &[usize],
+) -> Result<Vec<u32>, NoMemory>
     requires whole { IsWhole links.now }
     requires size { length groups.now ≡ length links.now }
     requires falls { NoneRises links.now groups.now }
@@ -30,8 +34,14 @@ pub(crate) fn first_cycle(alloc: Global, links: &[Items<u32>], groups: &[usize])
     }
 }
 
-// A cycle that begins with `start`, or `None` where it lies on none. It lies on none where it is linked to none of its own group.
-fn cycle_from(alloc: Global, links: &[Items<u32>], groups: &[usize], start: u32) -> Result<Option<Vec<u32>>, NoMemory>
+// A cycle that begins with `start`, or `None` where it lies on none. It lies on none where it is linked to none of its own
+// group.
+fn cycle_from(
+    alloc: Global,
+    links: &[Items<u32>],
+    groups: &[usize],
+    start: u32,
+) -> Result<Option<Vec<u32>>, NoMemory>
     requires whole { IsWhole links.now }
     requires size { length groups.now ≡ length links.now }
     requires falls { NoneRises links.now groups.now }

@@ -11,10 +11,17 @@ use sv_list::Items;
 // What stands for the group of a point that has none yet: it is greater than each group.
 const NO_GROUP: usize = usize::MAX;
 
-/// A group for each point, so that none is linked to one of a greater group. The roots are taken from the last on, and each
-/// point that has no group yet and that one leads to comes into its group. Where the points were done with in the order of
-/// the roots by a walk over the links turned round, two points are in one group only if each leads to the other.
-pub(crate) fn groups_of(alloc: Global, links: &[Items<u32>], roots: &[u32]) -> Result<Vec<usize>, NoMemory>
+/// A group for each point, so that none is linked to one of a greater group. The roots are taken from the last on, and all
+/// points without a group that one leads to come into its group.
+///
+/// Over the links of a walk turned round, with its order for roots, a group has just the points that lead to one another
+/// (Kosaraju's algorithm), so that the first search for a cycle finds one. That is why it is quick; its answer needs only
+/// that no group rises.
+pub(crate) fn groups_of(
+    alloc: Global,
+    links: &[Items<u32>],
+    roots: &[u32],
+) -> Result<Vec<usize>, NoMemory>
     requires whole { IsWhole links.now }
     requires within { All (λ p. p < length links.now) roots.now }
     ensures size { IfOk result (λ groups. length groups.items ≡ length links.now) }
@@ -22,13 +29,25 @@ pub(crate) fn groups_of(alloc: Global, links: &[Items<u32>], roots: &[u32]) -> R
 {
     let mut groups = vec![in alloc; NO_GROUP; links.len()]?;
     for group in 0..roots.len() {
-        flood(alloc, links, &mut groups, roots[roots.len() - 1 - group], group)?;
+        flood(
+            alloc,
+            links,
+            &mut groups,
+            roots[roots.len() - 1 - group],
+            group,
+        )?;
     }
     Ok(groups)
 }
 
 // Takes into a group all points without one that the root leads to.
-fn flood(alloc: Global, links: &[Items<u32>], groups: &mut Vec<usize>, root: u32, group: usize) -> Result<(), NoMemory>
+fn flood(
+    alloc: Global,
+    links: &[Items<u32>],
+    groups: &mut Vec<usize>,
+    root: u32,
+    group: usize,
+) -> Result<(), NoMemory>
     requires whole { IsWhole links.now }
     requires within { root < length links.now }
     requires small { group < 2 ^ 64 - 1 }
@@ -44,7 +63,13 @@ fn flood(alloc: Global, links: &[Items<u32>], groups: &mut Vec<usize>, root: u32
 }
 
 // Takes into a group all points that a point of the group is linked to.
-fn take_all(groups: &mut Vec<usize>, stack: &mut Vec<u32>, links: &[Items<u32>], point: u32, group: usize) -> Result<(), NoMemory>
+fn take_all(
+    groups: &mut Vec<usize>,
+    stack: &mut Vec<u32>,
+    links: &[Items<u32>],
+    point: u32,
+    group: usize,
+) -> Result<(), NoMemory>
     requires whole { IsWhole links.now }
     requires within { point < length links.now }
     requires small { group < 2 ^ 64 - 1 }
@@ -60,7 +85,12 @@ fn take_all(groups: &mut Vec<usize>, stack: &mut Vec<u32>, links: &[Items<u32>],
 }
 
 // Takes a point into a group if it has none.
-fn take(groups: &mut Vec<usize>, stack: &mut Vec<u32>, point: u32, group: usize) -> Result<(), NoMemory>
+fn take(
+    groups: &mut Vec<usize>,
+    stack: &mut Vec<u32>,
+    point: u32,
+    group: usize,
+) -> Result<(), NoMemory>
     requires { point < length groups.old.items }
     ensures { OnOk result (Takes (is_free (group_at groups.old.items point)) point group groups.old.items stack.old.items groups.new.items stack.new.items) }
 {

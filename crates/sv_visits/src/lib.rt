@@ -11,5 +11,5 @@ mod tests;
 mod turn;
 mod walk;
 
-pub use turn::unlinked;
 pub use outcome::{Visited, visit};
+pub use turn::unlinked;

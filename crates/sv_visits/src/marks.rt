@@ -9,7 +9,7 @@ use sv_list::Items;
 pub(crate) enum Mark {
     /// It was not met.
     New,
-    /// It links for points that are being visited.
+    /// It is linked to points that are being visited.
     Open,
     /// It is placed.
     Done,
@@ -28,14 +28,14 @@ impl Mark {
     }
 }
 
-/// A point that is being visited, and the place of the next point that it links for.
+/// A point that is being visited, and the place of the next point that it goes on to.
 #[derive(Clone, Copy, Debug)]
 pub(crate) struct Frame {
     pub(crate) point: u32,
     pub(crate) next: usize,
 }
 
-/// The next point that the frame's point links for, where there is one.
+/// The next point that a frame goes on to, where there is one.
 pub(crate) fn next_link(links: &[Items<u32>], frame: &Frame) -> Option<u32>
     requires { frame.now.point < length links.now }
     ensures point { result ≡ link_at links.now frame.now }

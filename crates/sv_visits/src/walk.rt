@@ -1,4 +1,4 @@
-// The walk that places each point behind those that it links for. A stack holds the points that are being visited, so that
+// The walk that places each point behind those that it is linked to. A stack holds the points that are being visited, so that
 // a long line of them takes no deep recursion.
 ghost use Rattle.std.specs.Prelude.{◌≡◌, ◌<◌, ◌≤◌, [], ◌∷◌, ◌++◌, ℕ, IfOk, OnOk, true, false, length, slice_set, All};
 ghost use Rattle.std.specs.List.{range_with_len};
@@ -40,7 +40,12 @@ pub(crate) fn walk_all(alloc: Global, links: &[Items<u32>], count: u32) -> Resul
 }
 
 // Visits a point, and with it all that it leads to, where it is new.
-fn walk_from(alloc: Global, links: &[Items<u32>], walk: &mut Walk, start: u32) -> Result<(), NoMemory>
+fn walk_from(
+    alloc: Global,
+    links: &[Items<u32>],
+    walk: &mut Walk,
+    start: u32,
+) -> Result<(), NoMemory>
     requires whole { IsWhole links.now }
     requires within { start < length links.now }
     requires walk { IsWalk links.now walk.old [] }

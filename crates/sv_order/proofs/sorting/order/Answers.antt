@@ -5,8 +5,8 @@ use Rattle.sv_order.proofs.sorting.order.Goals as goal
 pub returns-in-Order : goal.returns-in-Order
 returns-in-Order c =
     let o : IsOrder c.args.list.now c.in_ok-statements_of-in-Order.field-0.items =
-      found-order c.args.list.now c.in_ok-links.links.items c.deref.result.now c.in_ok-points.field-0 c.in-Order.points c.deref-in-Order.result.now c.in_ok-statements_of-in-Order.field-0.items
-      c.in_ok-links.ensures.two c.deref.ensures.value c.in_ok-points.ensures c.in-Order.is c.deref-in-Order.ensures.value c.in_ok-statements_of-in-Order.ensures in
+    found-order c.args.list.now c.in_ok-links.links.items c.deref.result.now c.in_ok-points.field-0 c.in-Order.points c.deref-in-Order.result.now c.in_ok-statements_of-in-Order.field-0.items
+    c.in_ok-links.ensures.two c.deref.ensures.value c.in_ok-points.ensures c.in-Order.is c.deref-in-Order.ensures.value c.in_ok-statements_of-in-Order.ensures in
     record {
       order = o;
       once = order-once c.args.list.now c.in_ok-statements_of-in-Order.field-0.items o;

@@ -9,8 +9,11 @@ pub take-requires : goal.take-requires
 take-requires c = omega (arith, c.requires.within, c.requires.earlier.size)
 
 pub loop-point-init : goal.loop-point-init
-loop-point-init c = (c.args.root, flooding-root c.args.links.now c.args.groups.now.items c.take.new.groups.items c.take.new.stack.items c.args.group c.args.root _ c.requires.small c.requires.within c.requires.earlier refl
-    (subst (λ (z : List ℕ). Takes (is_free (group_at c.args.groups.now.items c.args.root)) c.args.root c.args.group c.args.groups.now.items z c.take.new.groups.items c.take.new.stack.items) c.new-stack.ensures.items c.in_ok-take.ensures))
+loop-point-init c = (
+  c.args.root,
+  flooding-root c.args.links.now c.args.groups.now.items c.take.new.groups.items c.take.new.stack.items c.args.group c.args.root _ c.requires.small c.requires.within c.requires.earlier refl
+      (subst (λ (z : List ℕ). Takes (is_free (group_at c.args.groups.now.items c.args.root)) c.args.root c.args.group c.args.groups.now.items z c.take.new.groups.items c.take.new.stack.items) c.new-stack.ensures.items c.in_ok-take.ensures),
+)
 
 pub take_all-requires : goal.take_all-requires
 take_all-requires c =
@@ -30,7 +33,7 @@ loop-point-preserved c = (c.in-Some.point, c.in_ok-take_all.ensures.flooding)
 pub loop-point-smaller : goal.loop-point-smaller
 loop-point-smaller c =
     let less : 2 * count_by is_free c.take_all.new.groups.items + length c.take_all.new.stack.items < 2 * count_by is_free c.loop-point.groups.items + length c.loop-point.stack.items =
-      omega (arith, c.in_ok-take_all.ensures.less, ap length c.in-Some.ensures.items, length_push c.pop.new.self.items c.in-Some.point) in
+    omega (arith, c.in_ok-take_all.ensures.less, ap length c.in-Some.ensures.items, length_push c.pop.new.self.items c.in-Some.point) in
     less
 
 pub returns : goal.returns

@@ -28,7 +28,7 @@ loop-other-preserved c =
     let rest = drop_more c.as_slice-other-items.result.now c.loop-other.other-index 0 c.loop-other-test.true in
     let f = subst (IsFlooding c.args.links.now c.loop-other.groups.items c.loop-other.stack.items c.args.group c.args.point) rest c.loop-other.invariant.flooding in
     let taken = flooding-take c.args.links.now c.loop-other.groups.items c.take.new.groups.items c.loop-other.stack.items c.take.new.stack.items c.args.group c.args.point (get_or c.as_slice-other-items.result.now c.loop-other.other-index 0)
-          _ _ c.requires.small c.loop-other.invariant.own inside f refl c.in_ok-take.ensures in
+    _ _ c.requires.small c.loop-other.invariant.own inside f refl c.in_ok-take.ensures in
     record {
       flooding = taken.0;
       own = taken.1;
