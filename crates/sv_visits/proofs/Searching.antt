@@ -1,17 +1,15 @@
 -- The steps of a search for a cycle, and what it knows at its end.
-use Rattle.std.proofs.Common.{◌≡◌, ℕ, zero, suc, ◌+◌, ◌-◌, ◌*◌, ◌<◌, ◌≤◌, Bool, true, false, cond, List, [], ◌∷◌, ◌++◌, length, drop, set, get_or, map, replicate, Option, Some, None, refl, sym, ap, ◌∙◌, inl, inr, ◌⊎◌, subst, arith, add-one}
-use Rattle.std.specs.Prelude.{◌==◌, ◌||◌, ◌&&◌, not, count_by}
-use Rattle.std.specs.List.{sum_by, list_any}
-use Rattle.std.proofs.lemmas.Bool.{cases_eq, cases_Bool, eq-eqb, eqb-true, false≢true, or_cases, or_left, or_right, and_parts, and_from}
+use Rattle.std.proofs.Common.{◌≡◌, ℕ, zero, suc, ◌<◌, Bool, true, false, List, [], ◌∷◌, ◌++◌, length, drop, map, replicate, Some, None, refl, sym, ap, ◌∙◌, inl, inr, ◌⊎◌, subst, arith, add-one}
+use Rattle.std.specs.Prelude.{◌==◌, ◌||◌, ◌&&◌}
+use Rattle.std.proofs.lemmas.Bool.{cases_eq, eq-eqb, eqb-true, false≢true, or_cases, or_left, or_right, and_parts, and_from}
 use Rattle.std.proofs.lemmas.List.{get_or-set_same, get_or-set_other, length-set, length-replicate}
 use Rattle.std.proofs.lemmas.List.Folds.{list_any-append}
-use Rattle.std.proofs.lemmas.List.Sums.{sum_by-set, sum_by_push, get_or-le-sum_by}
 use Rattle.sv_visits.specs.Links.{is_in, links_of, IsLink, IsWhole}
 use Rattle.sv_visits.specs.Path.{Path, one as step, more}
-use Rattle.sv_visits.specs.Cycle.{Leads, IsCycle}
+use Rattle.sv_visits.specs.Cycle.{Leads}
 use Rattle.sv_visits.specs.declared.marks.Frame.{Frame}
-use Rattle.sv_visits.specs.Walk.{link_at, rest_of, work_of}
-use Rattle.sv_visits.specs.Search.{IsCycleOf, met_at, pends, IsChain, IsFrom, IsSearch, Meets, search_left}
+use Rattle.sv_visits.specs.Walk.{link_at, rest_of}
+use Rattle.sv_visits.specs.Search.{IsCycleOf, met_at, pends, IsChain, IsFrom, IsSearch, Meets}
 use Rattle.sv_visits.proofs.Points.{in_cons}
 use Rattle.sv_visits.proofs.Walking.{rest-none, rest-some}
 use Rattle.sv_visits.proofs.Underway.{behind}

@@ -1,11 +1,10 @@
 -- Links that are added, and links turned round.
-use Rattle.std.proofs.Common.{◌≡◌, ℕ, zero, suc, ◌+◌, ◌<◌, ◌≤◌, Bool, true, false, List, [], ◌∷◌, ◌++◌, length, take, set, get_or, replicate, refl, sym, ap, ◌∙◌, inl, inr, ◌⊎◌, subst, arith, add-one}
-use Rattle.std.specs.Prelude.{◌==◌}
+use Rattle.std.proofs.Common.{◌≡◌, ℕ, zero, suc, ◌+◌, ◌<◌, ◌≤◌, true, List, [], ◌∷◌, ◌++◌, length, take, set, get_or, replicate, sym, ap, ◌∙◌, inl, inr, ◌⊎◌, subst, arith}
 use Rattle.std.proofs.lemmas.Bool.{cases_eq, cases_lt, false≢true}
-use Rattle.std.proofs.lemmas.List.{get_or-set_same, get_or-set_other, length-set, take_more, take_all, get_or-take, get_or_past, get_or_push, get_or_append_left, get_or_read, length_push, length-replicate, length-take-le}
+use Rattle.std.proofs.lemmas.List.{get_or-set_same, get_or-set_other, take_more, take_all, get_or_past, get_or_push, get_or_append_left, get_or_read, length_push, length-replicate, length-take-le}
 use Rattle.sv_visits.specs.Links.{is_in, links_of, IsWhole, IsLink, AddsLinks, IsTurned}
 use Rattle.sv_visits.specs.Path.{Path, one, more}
-use Rattle.sv_visits.proofs.Points.{in_head, in_tail, in_left, in_push, in_push_cases, in_parts}
+use Rattle.sv_visits.proofs.Points.{in_head, in_tail, in_left, in_push, in_push_cases}
 
 pub adds-none : (links : List (List ℕ)) (to : ℕ) → AddsLinks links [] to links
 adds-none links to = record { keeps = λ p q h. h; adds = λ p h. absurd (false≢true h); only = λ p q h. inl h }

@@ -1,21 +1,19 @@
 -- A walk from one point that is underway, and the steps of its loop.
-use Rattle.std.proofs.Common.{◌≡◌, ℕ, zero, suc, ◌+◌, ◌-◌, ◌*◌, ◌<◌, ◌≤◌, Bool, true, false, cond, List, [], ◌∷◌, ◌++◌, length, drop, set, replicate, reverse, Option, Some, None, Vec, Global, refl, sym, ap, ◌∙◌, inl, inr, ◌⊎◌, subst, arith, add-one}
-use Rattle.std.specs.Prelude.{◌==◌, count_by}
+use Rattle.std.proofs.Common.{◌≡◌, ℕ, zero, suc, ◌+◌, ◌<◌, true, false, List, [], ◌∷◌, ◌++◌, length, drop, set, replicate, reverse, Some, None, Vec, Global, refl, sym, ap, ◌∙◌, subst, arith, add-one}
 use Rattle.std.specs.List.{range_with_len}
 use Rattle.std.proofs.lemmas.Bool.{false≢true}
 use Rattle.std.proofs.lemmas.List.{reverse-append, length-replicate}
-use Rattle.std.proofs.lemmas.List.Sums.{sum_by-set, sum_by-cons, get_or-le-sum_by}
 use Rattle.sv_visits.specs.Links.{is_in, links_of, IsWhole}
 use Rattle.sv_visits.specs.Visits.{with_point, Visits, none, again, first}
-use Rattle.sv_visits.specs.Path.{Path, one as step, more}
+use Rattle.sv_visits.specs.Path.{Path, one as step}
 use Rattle.sv_visits.specs.declared.marks.Mark.{Mark}
 use Rattle.sv_visits.specs.declared.marks.Mark.TheVariants.{New, Open, Done}
 use Rattle.sv_visits.specs.declared.marks.Frame.{Frame}
 use Rattle.sv_visits.specs.declared.walk.Walk.{Walk}
-use Rattle.sv_visits.specs.Walk.{link_at, rest_of, mark_of, is_new, is_open, is_done, one, frames_of, IsLinked, IsLine, IsWalk, Finishes, Enters, work_of, work_left}
+use Rattle.sv_visits.specs.Walk.{link_at, mark_of, is_open, is_done, one, frames_of, IsWalk, Finishes, Enters}
 use Rattle.sv_visits.proofs.Points.{with_new}
 use Rattle.sv_visits.proofs.Visiting.{visits-append}
-use Rattle.sv_visits.proofs.Walking.{rest-none, rest-some, line-path, top-open, top_within, place-walk, new-walk, open-by}
+use Rattle.sv_visits.proofs.Walking.{rest-none, rest-some, line-path, top-open, place-walk, new-walk, open-by}
 
 pub reverse_push : {A : Type 0} (xs : List A) (x : A) → reverse (xs ++ x ∷ []) ≡ x ∷ reverse xs
 reverse_push xs x = reverse-append xs (x ∷ [])

@@ -1,6 +1,5 @@
 -- What visits leave: all that was placed before, and all that was to be visited.
-use Rattle.std.proofs.Common.{◌≡◌, ℕ, Bool, true, false, List, [], ◌∷◌, ◌++◌, refl, sym, ap, ◌∙◌, inl, inr, subst}
-use Rattle.std.specs.Prelude.{◌==◌}
+use Rattle.std.proofs.Common.{◌≡◌, ℕ, true, List, [], ◌++◌, inl, inr, subst}
 use Rattle.sv_visits.specs.Links.{is_in}
 use Rattle.sv_visits.specs.Visits.{with_point, Visits, none, again, first}
 use Rattle.sv_visits.proofs.Points.{in_cons, in_with, kept_with}

@@ -1,19 +1,16 @@
 -- One step of a walk after another.
-use Rattle.std.proofs.Common.{◌≡◌, ℕ, zero, suc, ◌+◌, ◌-◌, ◌*◌, ◌<◌, ◌≤◌, Bool, true, false, cond, List, [], ◌∷◌, ◌++◌, length, drop, set, get_or, Option, Some, None, refl, sym, ap, ◌∙◌, inl, inr, ◌⊎◌, subst, arith}
-use Rattle.std.specs.Prelude.{◌==◌, count_by}
-use Rattle.std.specs.List.{sum_by, slice_get}
-use Rattle.std.proofs.lemmas.Bool.{cases_eq, cases_lt, eq-eqb, ne_eqb, cases_Bool, eqb-true, false≢true}
+use Rattle.std.proofs.Common.{◌≡◌, ℕ, zero, suc, ◌+◌, ◌<◌, ◌≤◌, Bool, true, false, List, [], ◌∷◌, ◌++◌, length, drop, set, get_or, Some, None, refl, sym, ap, ◌∙◌, inl, inr, ◌⊎◌, subst, arith}
+use Rattle.std.specs.List.{slice_get}
+use Rattle.std.proofs.lemmas.Bool.{cases_eq, cases_lt, eq-eqb, ne_eqb, false≢true}
 use Rattle.std.proofs.lemmas.List.{get_or-set_same, get_or-set_other, length-set, get_or_past, get_or_read}
-use Rattle.std.proofs.lemmas.List.Sums.{sum_by-set}
-use Rattle.sv_visits.specs.Links.{is_in, links_of, IsWhole}
-use Rattle.sv_visits.specs.Visits.{with_point, Visits, none, again, first}
-use Rattle.sv_visits.specs.Path.{Path, one as step, more}
+use Rattle.sv_visits.specs.Links.{is_in, links_of}
+use Rattle.sv_visits.specs.Path.{Path, more}
 use Rattle.sv_visits.specs.declared.marks.Mark.{Mark}
 use Rattle.sv_visits.specs.declared.marks.Mark.TheVariants.{New, Open, Done}
 use Rattle.sv_visits.specs.declared.marks.Frame.{Frame}
 use Rattle.sv_visits.specs.declared.walk.Walk.{Walk}
-use Rattle.sv_visits.specs.Walk.{link_at, rest_of, mark_of, is_new, is_open, is_done, one, frames_of, IsLinked, IsLine, IsWalk, Finishes, Enters, work_of, work_left}
-use Rattle.sv_visits.proofs.Points.{with_new, in_push, in_left, in_head, in_tail, is_in-append, pushed-other}
+use Rattle.sv_visits.specs.Walk.{mark_of, is_new, is_open, is_done, one, frames_of, IsLinked, IsLine, IsWalk}
+use Rattle.sv_visits.proofs.Points.{in_push, in_head, in_tail, pushed-other}
 
 -- ---- what a frame links for
 

@@ -1,9 +1,9 @@
 -- Each step of a walk leaves less work.
-use Rattle.std.proofs.Common.{◌≡◌, ℕ, zero, suc, ◌+◌, ◌-◌, ◌*◌, ◌<◌, ◌≤◌, Bool, true, false, cond, List, [], ◌∷◌, ◌++◌, length, set, get_or, reverse, Option, Some, None, refl, sym, ap, ◌∙◌, subst, arith}
+use Rattle.std.proofs.Common.{◌≡◌, ℕ, ◌+◌, ◌*◌, ◌<◌, ◌≤◌, false, cond, List, [], ◌∷◌, length, set, reverse, Some, refl, sym, ap, ◌∙◌, subst, arith}
 use Rattle.std.specs.Prelude.{count_by}
 use Rattle.std.specs.List.{sum_by}
 use Rattle.std.proofs.lemmas.List.Sums.{sum_by-set, sum_by-cons, get_or-le-sum_by}
-use Rattle.sv_visits.specs.Links.{is_in, links_of, IsWhole}
+use Rattle.sv_visits.specs.Links.{links_of, IsWhole}
 use Rattle.sv_visits.specs.declared.marks.Mark.{Mark}
 use Rattle.sv_visits.specs.declared.marks.Mark.TheVariants.{New, Open, Done}
 use Rattle.sv_visits.specs.declared.marks.Frame.{Frame}

@@ -1,5 +1,5 @@
 -- Cycles of a relation between points.
-use Rattle.std.specs.Prelude.{◌≡◌, ℕ, ◌≤◌, Bool, true, List, [], ◌∷◌, slice_index}
+use Rattle.std.specs.Prelude.{◌≡◌, ℕ, ◌≤◌, true, List, [], ◌∷◌, slice_index}
 use Rattle.sv_visits.specs.Links.{is_in}
 
 -- from p on, each point of the list is related to the next, and the last to the end

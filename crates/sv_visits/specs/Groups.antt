@@ -1,6 +1,6 @@
 -- Groups of points. No point is linked to one of a greater group.
-use Rattle.std.specs.Prelude.{◌≡◌, ℕ, ◌≤◌, ◌<◌, ◌+◌, ◌==◌, ◌⊎◌, Bool, true, false, List, [], ◌∷◌, ◌++◌, length, slice_index_or, slice_set}
-use Rattle.sv_visits.specs.Links.{is_in, links_of, IsLink}
+use Rattle.std.specs.Prelude.{◌≡◌, ℕ, ◌≤◌, ◌<◌, ◌==◌, ◌⊎◌, Bool, true, false, List, [], ◌∷◌, ◌++◌, length, slice_index_or, slice_set}
+use Rattle.sv_visits.specs.Links.{is_in, IsLink}
 use Rattle.sv_visits.specs.declared.groups.TheConstants.{NO_GROUP}
 
 -- the group of a point

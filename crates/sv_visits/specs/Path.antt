@@ -1,5 +1,5 @@
 -- Ways from one point to another.
-use Rattle.std.specs.Prelude.{◌≡◌, ℕ, Bool, true, List}
+use Rattle.std.specs.Prelude.{◌≡◌, ℕ, true, List}
 use Rattle.sv_visits.specs.Links.{is_in}
 
 -- a point is linked to another, or to one that leads there

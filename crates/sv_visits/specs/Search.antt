@@ -1,8 +1,8 @@
 -- What a search for a cycle knows: the points that it met, and the frames of those that it has gone on to.
 use Rattle.std.specs.Prelude.{◌≡◌, ℕ, ◌+◌, ◌*◌, ◌==◌, ◌||◌, ◌&&◌, not, Bool, true, false, List, [], ◌∷◌, ◌++◌, length, slice_index_or, slice_set, count_by}
 use Rattle.std.specs.List.{sum_by, list_any}
-use Rattle.sv_visits.specs.Links.{is_in, links_of, IsLink}
-use Rattle.sv_visits.specs.Cycle.{Leads, IsCycle}
+use Rattle.sv_visits.specs.Links.{is_in, IsLink}
+use Rattle.sv_visits.specs.Cycle.{IsCycle}
 use Rattle.sv_visits.specs.Walk.{rest_of, work_of}
 use Rattle.sv_visits.specs.declared.marks.Frame.{Frame}
 

@@ -1,5 +1,5 @@
 -- Visiting points that are linked to others.
-use Rattle.std.specs.Prelude.{◌≡◌, ℕ, Bool, true, false, List, [], ◌∷◌, ◌++◌, if◌then◌else◌}
+use Rattle.std.specs.Prelude.{◌≡◌, ℕ, true, false, List, [], ◌∷◌, ◌++◌, if◌then◌else◌}
 use Rattle.sv_visits.specs.Links.{is_in}
 
 -- the list with a point placed at its end, if it is not there yet

@@ -1,6 +1,6 @@
 -- What a walk knows: the marks of points, the order of those that are placed, and the frames of those that are being
 -- visited. Frames are listed from the one on top.
-use Rattle.std.specs.Prelude.{◌≡◌, ℕ, ◌+◌, ◌-◌, ◌*◌, ◌==◌, Bool, true, false, List, [], ◌∷◌, ◌++◌, Option, length, slice_get, slice_index_or, slice_set, drop, map, count_by, if◌then◌else◌}
+use Rattle.std.specs.Prelude.{◌≡◌, ℕ, ◌+◌, ◌-◌, ◌*◌, ◌==◌, Bool, true, false, List, [], ◌∷◌, ◌++◌, Option, length, slice_get, slice_index_or, slice_set, drop, count_by, if◌then◌else◌}
 use Rattle.std.specs.List.{sum_by}
 use Rattle.sv_visits.specs.Links.{is_in, links_of}
 use Rattle.sv_visits.specs.Visits.{with_point, Visits}

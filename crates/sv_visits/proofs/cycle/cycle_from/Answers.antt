@@ -1,11 +1,11 @@
-use Rattle.std.proofs.Common.{rules, ◌≡◌, ◌<◌, ◌∷◌, ◌++◌, [], List, ℕ, map, ap, sym, ◌∙◌, subst, arith, refl}
+use Rattle.std.proofs.Common.{rules, ◌≡◌, ◌<◌, ◌∷◌, ◌++◌, [], map, ap, sym, ◌∙◌, subst, arith, refl}
 use Rattle.sv_visits.specs.Links.{links_of}
 use Rattle.sv_visits.specs.declared.marks.Frame.{Frame}
 use Rattle.sv_visits.specs.Search.{IsSearch, IsCycleOf, Meets, met_at, search_left}
 use Rattle.sv_visits.proofs.Walking.{rest-some}
 use Rattle.sv_visits.proofs.Searching.{search-start, search_within, search-done, search-met, search-none, search-found}
 use Rattle.sv_visits.proofs.Flooding.{stays-not}
-use Rattle.sv_visits.proofs.SearchWork.{less-done, less-met}
+use Rattle.sv_visits.proofs.SearchWork.{less-met}
 use Rattle.sv_visits.proofs.cycle.cycle_from.Goals as goal
 
 pub loop-frame-init : goal.loop-frame-init

@@ -1,4 +1,4 @@
-use Rattle.std.proofs.Common.{length, ◌+◌, ◌*◌, ◌≡◌, [], ℕ}
+use Rattle.std.proofs.Common.{length, ◌+◌, ◌*◌, [], ℕ}
 use Rattle.std.specs.Prelude.{count_by}
 use Rattle.sv_visits.specs.Groups.{IsFlooding, is_free}
 use Rattle.sv_visits.proofs.groups.flood.Given as goal

@@ -1,6 +1,5 @@
-use Rattle.std.proofs.Common.{◌≡◌, ◌<◌, [], ◌∷◌, List, ℕ, length, get_or, sym, ◌∙◌, subst, arith, refl}
+use Rattle.std.proofs.Common.{◌≡◌, [], List, ℕ, length, get_or, sym, ◌∙◌, subst, arith, refl}
 use Rattle.std.proofs.lemmas.List.{get_or_read, drop_more, drop_all}
-use Rattle.sv_visits.specs.Links.{links_of}
 use Rattle.sv_visits.specs.Groups.{IsFlooding}
 use Rattle.sv_visits.proofs.Turning.{links_within}
 use Rattle.sv_visits.proofs.Flooding.{flooding-take, take-less}

@@ -1,4 +1,4 @@
-use Rattle.std.proofs.Common.{length, ap, subst, sym, ◌∙◌, ◌≡◌, List, ℕ, ◌<◌, get_or, arith}
+use Rattle.std.proofs.Common.{length, ap, subst, sym, ◌∙◌, ◌≡◌, List, ℕ, get_or, arith}
 use Rattle.std.proofs.lemmas.List.{length-replicate}
 use Rattle.sv_visits.proofs.Turning.{links_within, turned-none, turned-more, turned-all}
 use Rattle.sv_visits.proofs.turn.turned.Goals as goal

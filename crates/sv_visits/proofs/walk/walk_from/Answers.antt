@@ -1,4 +1,4 @@
-use Rattle.std.proofs.Common.{◌≡◌, ◌<◌, ◌∷◌, length, reverse, ap, sym, ◌∙◌, subst, arith, refl}
+use Rattle.std.proofs.Common.{◌<◌, reverse, ap, sym, ◌∙◌, subst, arith, refl}
 use Rattle.sv_visits.specs.Links.{links_of}
 use Rattle.sv_visits.specs.Walk.{mark_of, Enters, work_left}
 use Rattle.sv_visits.proofs.Underway.{IsUnderway, reverse_push, start-underway, place-underway, enter-underway, done-visits}

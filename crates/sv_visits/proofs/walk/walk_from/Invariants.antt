@@ -1,5 +1,4 @@
-use Rattle.std.proofs.Common.{◌≡◌, false, true, ℕ, List, [], ◌∷◌, reverse}
-use Rattle.sv_visits.specs.Links.{links_of}
+use Rattle.std.proofs.Common.{reverse}
 use Rattle.sv_visits.specs.Walk.{work_left}
 use Rattle.sv_visits.proofs.Underway.{IsUnderway}
 use Rattle.sv_visits.proofs.walk.walk_from.Given as goal
