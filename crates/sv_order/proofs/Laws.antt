@@ -1,8 +1,8 @@
 -- What an order and a cycle of statements are.
-use Rattle.std.proofs.Common.{◌≡◌, ℕ, ◌+◌, ◌<◌, ◌≤◌, Bool, true, false, cond, List, [], ◌∷◌, ◌++◌, length, Vec, Global, refl, sym, ap, ◌∙◌, inl, inr, subst, arith}
+use Rattle.std.proofs.Common.{◌≡◌, ℕ, ◌<◌, ◌≤◌, true, cond, List, [], ◌∷◌, length, Vec, Global, sym, ap, ◌∙◌, inl, inr, subst, arith}
 use Rattle.std.specs.Prelude.{nat_lt, filter}
 use Rattle.std.specs.List.{range_with_len}
-use Rattle.std.proofs.lemmas.Bool.{cases_lt, cases_Bool, lt-ltb, le-ltb, false≢true, false_from_ne_true}
+use Rattle.std.proofs.lemmas.Bool.{cases_lt, lt-ltb, le-ltb, false≢true, false_from_ne_true}
 use Rattle.sv_visits.specs.Links.{is_in, links_of, IsLink}
 use Rattle.sv_visits.specs.Visits.{Visits}
 use Rattle.sv_visits.specs.Cycle.{IsCycle, IsFirstCycle}
@@ -15,7 +15,7 @@ use Rattle.sv_visits.proofs.Cycling.{first-map}
 use Rattle.sv_order.specs.declared.reads.Reads.{Reads}
 use Rattle.sv_order.specs.ReactiveOrder.{Before, before_of, IsOrder, IsEachOnce, IsBehind}
 use Rattle.sv_order.specs.Points.{IsTwoStep}
-use Rattle.sv_order.proofs.TwoSteps.{only, visits-statements}
+use Rattle.sv_order.proofs.TwoSteps.{visits-statements}
 use Rattle.sv_order.proofs.Placing.{times, times-absent, times-present, visits-once, visits-below, visits-behind, visits-acyclic}
 use Rattle.sv_order.proofs.Circles.{cycle-earlier, first-only}
 use Rattle.sv_order.proofs.Naming.{in-range, range-in, before-there, before-back, before-below}

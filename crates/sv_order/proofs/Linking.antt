@@ -1,20 +1,20 @@
 -- The links of statements and names are what visits need.
-use Rattle.std.proofs.Common.{◌≡◌, ℕ, zero, suc, ◌+◌, ◌-◌, ◌<◌, ◌≤◌, Bool, true, false, cond, List, [], ◌∷◌, ◌++◌, length, map, take, replicate, get_or, Option, Some, None, refl, sym, ap, ◌∙◌, inl, inr, ◌⊎◌, subst, arith, add-one}
-use Rattle.std.specs.Prelude.{◌||◌, not, filter, position, nat_lt}
+use Rattle.std.proofs.Common.{◌≡◌, ℕ, zero, suc, ◌+◌, ◌-◌, ◌<◌, ◌≤◌, Bool, true, false, cond, List, [], ◌∷◌, ◌++◌, length, replicate, get_or, Option, Some, None, refl, sym, ap, ◌∙◌, inl, inr, subst, arith, add-one}
+use Rattle.std.specs.Prelude.{◌||◌, not, filter, position}
 use Rattle.std.specs.List.{flat_map, cons_option, range_with_len, list_any, position_or_len}
 use Rattle.std.specs.Option.{option_map}
-use Rattle.std.proofs.lemmas.Bool.{cases_Bool, cases_lt, cases_eq, false≢true, false_from_ne_true, lt-ltb}
-use Rattle.std.proofs.lemmas.List.{append-nil, length-replicate, length_push, length-append, get_or_append_left, get_or-append_right, get_or_push, get_or_past, get_or-append-add}
+use Rattle.std.proofs.lemmas.Bool.{cases_lt, cases_eq, false≢true, false_from_ne_true, lt-ltb}
+use Rattle.std.proofs.lemmas.List.{append-nil, length-replicate, length_push, length-append, get_or_append_left, get_or-append_right, get_or_push}
 use Rattle.std.proofs.lemmas.List.Elements.{filter-append}
 use Rattle.std.proofs.lemmas.List.Quantifiers.{position-Some}
 use Rattle.sv_ast.specs.declared.names.Ref.{Ref}
 use Rattle.sv_visits.specs.Links.{is_in, links_of, IsLink, IsWhole}
-use Rattle.sv_visits.proofs.Points.{in_cons, in_parts}
+use Rattle.sv_visits.proofs.Points.{in_cons}
 use Rattle.sv_visits.proofs.Turning.{unlinked-none}
 use Rattle.sv_visits.proofs.Underway.{range-more}
 use Rattle.sv_order.specs.declared.reads.Reads.{Reads}
 use Rattle.sv_order.specs.ReactiveOrder.{same_ref, has, reads_of, sets_of, needs_of, setters_of, before_of}
-use Rattle.sv_order.specs.Points.{KnowsAll, IsTwoStep, points_of, with_setter, AreBelow, NotesSetter, TellsOwn}
+use Rattle.sv_order.specs.Points.{KnowsAll, IsTwoStep, points_of, with_setter, AreBelow, NotesSetter}
 
 -- the statements below a number that assign a name
 abbrev pub setters_below : List Reads → ℕ → Ref → List ℕ

@@ -1,15 +1,13 @@
 -- What visits of points leave: each once, behind all that it is linked to; and so there is no cycle.
-use Rattle.std.proofs.Common.{◌≡◌, ℕ, zero, suc, ◌+◌, ◌<◌, ◌≤◌, Bool, true, false, cond, List, [], ◌∷◌, ◌++◌, length, refl, sym, ap, ◌∙◌, inl, inr, ◌⊎◌, subst, arith, append_assoc}
-use Rattle.std.specs.Prelude.{◌==◌, ◌||◌, nat_lt, count_by}
-use Rattle.std.specs.List.{range_with_len}
-use Rattle.std.proofs.lemmas.Bool.{cases_Bool, cases_lt, lt-ltb, le-ltb, false≢true, eq-eqb, ne_eqb, cases_eq}
+use Rattle.std.proofs.Common.{◌≡◌, ℕ, ◌+◌, ◌<◌, ◌≤◌, true, false, cond, List, [], ◌∷◌, ◌++◌, refl, sym, ap, ◌∙◌, inl, inr, subst, arith, append_assoc}
+use Rattle.std.specs.Prelude.{◌==◌, ◌||◌, count_by}
+use Rattle.std.proofs.lemmas.Bool.{cases_Bool, false≢true, eq-eqb, ne_eqb, cases_eq}
 use Rattle.std.proofs.lemmas.List.{append-nil}
 use Rattle.std.proofs.lemmas.List.Sums.{sum_by_push, sum_by-cons}
 use Rattle.sv_visits.specs.Links.{is_in}
 use Rattle.sv_visits.specs.Visits.{with_point, Visits, none, again, first}
-use Rattle.sv_visits.specs.Cycle.{Leads, IsCycle}
-use Rattle.sv_visits.proofs.Points.{in_head, in_tail, in_cons, in_left, in_right, in_parts, in_push, in_push_cases, with_new, with_old}
-use Rattle.sv_visits.proofs.Visiting.{visits-keep, visits-reach}
+use Rattle.sv_visits.proofs.Points.{in_head, in_tail, in_cons, in_push_cases, with_new, with_old}
+use Rattle.sv_visits.proofs.Visiting.{visits-reach}
 
 abbrev pub times : ℕ → List ℕ → ℕ
 times p points = count_by (λ x. x == p) points

@@ -1,18 +1,18 @@
 -- The statements that assign each name, and the names that a statement needs.
-use Rattle.std.proofs.Common.{◌≡◌, ℕ, zero, suc, ◌+◌, ◌-◌, ◌<◌, ◌≤◌, Bool, true, false, cond, List, [], ◌∷◌, ◌++◌, length, take, set, get_or, Option, Some, None, refl, sym, ap, ◌∙◌, inl, inr, ◌⊎◌, subst, arith}
-use Rattle.std.specs.Prelude.{◌==◌, ◌||◌, not, filter, slice_get, position, if◌then◌else◌}
+use Rattle.std.proofs.Common.{◌≡◌, ℕ, suc, ◌+◌, ◌-◌, ◌<◌, ◌≤◌, Bool, true, false, cond, List, [], ◌∷◌, ◌++◌, length, take, set, get_or, Some, None, refl, sym, ap, ◌∙◌, inl, inr, ◌⊎◌, subst, arith}
+use Rattle.std.specs.Prelude.{◌==◌, ◌||◌, filter, slice_get, position, if◌then◌else◌}
 use Rattle.std.specs.List.{filter_map}
 use Rattle.std.specs.Option.{option_map}
-use Rattle.std.proofs.lemmas.Bool.{cases_Bool, cases_eq, false≢true, false_from_ne_true, or_cases, or_left, or_right, eq-eqb, eqb-true}
+use Rattle.std.proofs.lemmas.Bool.{cases_Bool, cases_eq, false≢true, false_from_ne_true, or_right, eq-eqb, eqb-true}
 use Rattle.std.proofs.lemmas.List.{take_more, take_all, get_or-set_same, get_or-set_other, length-set, append-nil, get_or_read}
 use Rattle.std.proofs.lemmas.List.Elements.{filter-append, filter_map-append}
 use Rattle.std.proofs.lemmas.List.Quantifiers.{position-Some}
 use Rattle.sv_ast.specs.declared.names.Ref.{Ref}
-use Rattle.sv_visits.specs.Links.{is_in, links_of, IsLink}
+use Rattle.sv_visits.specs.Links.{is_in, links_of}
 use Rattle.sv_visits.proofs.Points.{in_head, in_tail, in_push_cases}
 use Rattle.sv_order.specs.ReactiveOrder.{same_ref, has}
 use Rattle.sv_order.specs.Points.{is_last, points_of, with_setter, AreBelow, NotesSetter, TellsOwn}
-use Rattle.sv_order.proofs.Naming.{same_ref-true, same_ref-self, has-append, has-cons, has-head, filter-yes, filter-no}
+use Rattle.sv_order.proofs.Naming.{same_ref-true, has-append, has-cons, has-head, filter-yes, filter-no}
 
 -- ---- the last of a list
 

@@ -1,9 +1,9 @@
 -- The table of the names that some statement assigns.
-use Rattle.std.proofs.Common.{◌≡◌, ℕ, zero, suc, ◌+◌, ◌<◌, ◌≤◌, Bool, true, false, cond, List, [], ◌∷◌, ◌++◌, length, map, take, get_or, refl, sym, ap, ◌∙◌, inl, inr, ◌⊎◌, subst, arith}
+use Rattle.std.proofs.Common.{◌≡◌, ℕ, zero, suc, ◌+◌, ◌<◌, ◌≤◌, Bool, true, cond, List, [], ◌∷◌, ◌++◌, length, take, get_or, refl, sym, ap, ◌∙◌, inl, inr, ◌⊎◌, subst, arith}
 use Rattle.std.specs.Prelude.{◌||◌}
 use Rattle.std.specs.List.{list_any}
-use Rattle.std.proofs.lemmas.Bool.{cases_Bool, cases_lt, cases_eq, false≢true, or_cases, or_left, or_right}
-use Rattle.std.proofs.lemmas.List.{take_more, take_all, take-map, get_or-take, get_or_push, get_or_past, length-take-le, length-map, get_or_append_left}
+use Rattle.std.proofs.lemmas.Bool.{cases_Bool, cases_eq, false≢true, or_cases, or_left, or_right}
+use Rattle.std.proofs.lemmas.List.{take_more, take_all, length-take-le}
 use Rattle.indexmap.specs.IndexSet.{insert_key}
 use Rattle.sv_ast.specs.declared.names.Ref.{Ref}
 use Rattle.sv_ast.specs.declared.names.Ref.TheVariants.{Plain, Store}
@@ -11,7 +11,7 @@ use Rattle.sv_ast.specs.contracts.names.RefPartialEq.TheImpl as ref_impl
 use Rattle.sv_order.specs.declared.reads.Reads.{Reads}
 use Rattle.sv_order.specs.ReactiveOrder.{same_ref, has, sets_of}
 use Rattle.sv_order.specs.Points.{Keeps, KnowsAll}
-use Rattle.sv_order.proofs.Naming.{same_ref-self, has-append, has-cons, has-head}
+use Rattle.sv_order.proofs.Naming.{has-append, has-cons, has-head}
 
 -- the table's test of names
 abbrev pub ref_eq : Ref → Ref → Bool

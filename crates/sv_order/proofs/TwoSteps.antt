@@ -1,12 +1,12 @@
 -- Visits of statements and names place the statements as visits of statements alone do.
-use Rattle.std.proofs.Common.{◌≡◌, ℕ, zero, suc, ◌+◌, ◌<◌, ◌≤◌, Bool, true, false, cond, List, [], ◌∷◌, ◌++◌, length, refl, sym, ap, ◌∙◌, inl, inr, ◌⊎◌, subst, arith}
-use Rattle.std.specs.Prelude.{◌==◌, ◌||◌, nat_lt, filter}
+use Rattle.std.proofs.Common.{◌≡◌, ℕ, zero, suc, ◌+◌, ◌<◌, ◌≤◌, Bool, true, false, cond, List, [], ◌∷◌, ◌++◌, refl, sym, ap, ◌∙◌, inl, inr, subst, arith}
+use Rattle.std.specs.Prelude.{nat_lt, filter}
 use Rattle.std.specs.List.{flat_map, range_with_len}
-use Rattle.std.proofs.lemmas.Bool.{cases_Bool, cases_lt, lt-ltb, le-ltb, ltb-true, ltb-false, false≢true, eqb-true, false_from_ne_true}
+use Rattle.std.proofs.lemmas.Bool.{cases_Bool, cases_lt, lt-ltb, le-ltb, false≢true, false_from_ne_true}
 use Rattle.sv_visits.specs.Links.{is_in}
 use Rattle.sv_visits.specs.Visits.{with_point, Visits, none, again, first}
-use Rattle.sv_visits.proofs.Points.{in_head, in_tail, in_cons, in_left, in_push, in_push_cases, with_new, with_old, in_with, kept_with}
-use Rattle.sv_visits.proofs.Visiting.{visits-append, visits-keep, visits-reach}
+use Rattle.sv_visits.proofs.Points.{in_head, in_tail, in_cons, in_left, in_push_cases, with_new, with_old}
+use Rattle.sv_visits.proofs.Visiting.{visits-append, visits-reach}
 use Rattle.sv_order.specs.Points.{IsTwoStep}
 
 module _ (count : ℕ) where

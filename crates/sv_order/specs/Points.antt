@@ -1,12 +1,12 @@
 -- Statements and names as points: a statement is linked to the names that it needs, and a name to the statements that assign
 -- it. So as many links serve as names are written, where many statements share a name.
-use Rattle.std.specs.Prelude.{◌≡◌, ℕ, ◌+◌, ◌<◌, ◌≤◌, not, Bool, true, false, List, [], ◌∷◌, ◌++◌, Option, Some, None, length, filter, position, nat_lt, ◌==◌, if◌then◌else◌}
-use Rattle.std.specs.List.{flat_map, range_with_len, filter_map}
+use Rattle.std.specs.Prelude.{◌≡◌, ℕ, ◌+◌, ◌<◌, ◌≤◌, Bool, true, false, List, [], ◌∷◌, ◌++◌, Some, position, ◌==◌, if◌then◌else◌}
+use Rattle.std.specs.List.{flat_map, filter_map}
 use Rattle.std.specs.Option.{option_map}
 use Rattle.sv_ast.specs.declared.names.Ref.{Ref}
 use Rattle.sv_visits.specs.Links.{is_in, links_of, IsLink}
 use Rattle.sv_order.specs.declared.reads.Reads.{Reads}
-use Rattle.sv_order.specs.ReactiveOrder.{same_ref, has, sets_of, needs_of, before_of}
+use Rattle.sv_order.specs.ReactiveOrder.{same_ref, has, sets_of}
 
 -- names that were added to others
 pub record Keeps (old more new : List Ref) : Type 0 where

@@ -1,4 +1,4 @@
-use Rattle.std.proofs.Common.{◌≡◌, Some, None, List, ℕ, ◌-◌, length, sym, ◌∙◌, subst}
+use Rattle.std.proofs.Common.{◌≡◌, Some, None, List, ℕ, ◌-◌, length, sym, subst}
 use Rattle.std.specs.Prelude.{slice_get}
 use Rattle.sv_order.proofs.Setting.{last-some, last-none}
 use Rattle.sv_order.proofs.links.ends_with.Goals as goal

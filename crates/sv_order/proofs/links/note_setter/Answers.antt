@@ -1,5 +1,5 @@
 use Rattle.std.proofs.Common.{sym, ap, subst, take, ◌+◌}
-use Rattle.sv_order.proofs.Setting.{IsNoting, noting-none, noting-unknown, noting-written, noting-all}
+use Rattle.sv_order.proofs.Setting.{IsNoting, noting-none, noting-unknown, noting-written}
 use Rattle.sv_order.proofs.links.note_setter.Goals as goal
 use Rattle.sv_order.proofs.links.note_setter.Goals.{in-Some+in_ok-note_last, in_default}
 

@@ -1,4 +1,4 @@
-use Rattle.std.proofs.Common.{◌≡◌, length, ap, sym, ◌∙◌, subst, arith, replicate, []}
+use Rattle.std.proofs.Common.{◌≡◌, length, ap, ◌∙◌, subst, arith, replicate, []}
 use Rattle.sv_order.proofs.Linking.{IsLinking, linking-none, linking-more, linking-two, linking-whole}
 use Rattle.sv_order.proofs.links.statement_links.Goals as goal
 
