@@ -27,7 +27,7 @@ no : false ≡ true → ⊥
 no e = cc
 
 -- the name of a node is read where it begins
-name-here : (key : ℕ) (pre post : List Token) (t : Token) → begins key t ≡ true → times (begins key) (pre ++ (t ∷ post)) ≤ 1 → name_at key (pre ++ (t ∷ post)) ≡ node_of t
+pub name-here : (key : ℕ) (pre post : List Token) (t : Token) → begins key t ≡ true → times (begins key) (pre ++ (t ∷ post)) ≤ 1 → name_at key (pre ++ (t ∷ post)) ≡ node_of t
 name-here key [] post t e once = ap (λ z. if z then node_of t else name_at key post) e
 name-here key (s ∷ pre) post t e once = go (begins key s) refl (name-here key pre post t e (omega (arith, once)))
   where

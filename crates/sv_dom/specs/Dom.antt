@@ -1,5 +1,5 @@
 -- A page tree, seen as a page.
-use Rattle.std.specs.Prelude.{◌≤◌, ◌+◌, ℕ, [], ◌∷◌, Option, Some, None, option_map, if◌then◌else◌}
+use Rattle.std.specs.Prelude.{◌≤◌, ◌+◌, ◌==◌, ℕ, [], ◌∷◌, Option, Some, None, option_map, if◌then◌else◌}
 use Rattle.sv_tokens.specs.Counting.{times}
 use Rattle.sv_tokens.specs.Token.{named, Open, Close, Page, lacks_number}
 use Rattle.sv_tokens.specs.Seen.{seen, IsNumbered}
@@ -9,7 +9,7 @@ use Rattle.sv_tokens.specs.declared.change.What.TheVariants as what
 use Rattle.sv_nodes.specs.Nodes.{Kind, element, text, Cell, Nodes, tokens_of, is_anchor}
 use Rattle.sv_nodes.specs.Sound.{IsSound}
 use Rattle.sv_tokens.specs.declared.change.Change.{Change}
-use Rattle.sv_tokens.specs.declared.change.Change.TheVariants.{Remove}
+use Rattle.sv_tokens.specs.declared.change.Change.TheVariants.{Move, Remove}
 use Rattle.sv_dom.specs.declared.Node.{Node}
 
 -- the page that nodes under keys show
@@ -38,3 +38,7 @@ kind_of_what (what.Text bytes) = text bytes
 -- what is told where a node goes: nothing of an anchor
 abbrev pub removal : Cell → Option Change
 removal cell = if is_anchor cell.kind then None else Some (Remove cell.serial)
+
+-- what is told where a node goes elsewhere: nothing of an anchor, nor where the next sibling that is seen stays the same
+abbrev pub relocation : Cell → (earlier later : ℕ) → Option Change
+relocation cell earlier later = if is_anchor cell.kind then None else (if earlier == later then None else Some (Move cell.serial later))

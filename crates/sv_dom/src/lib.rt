@@ -2,26 +2,28 @@
 //! tokens in document order, so that each call edits one place of the list and leaves all around it.
 #![tactic(auto)]
 
-ghost use Rattle.std.specs.Prelude.{◌≡◌, ◌≢◌, ◌+◌, ◌∷◌, ◌^◌, ◌<◌, [], IfOk, OnOk, OnErr, IsSome, IsNone, None, ◌↔◌};
-ghost use Rattle.sv_tokens.specs.Counting.{Has};
-ghost use Rattle.sv_tokens.specs.Token.{named, Text as text_token, Anchor as anchor_token, opens, texts, anchors, begins, identifies, first_key, name_at, IsPlace};
-ghost use Rattle.sv_tokens.specs.Edit.{Removed, with_text, with_element, with_attribute, without_slot, with_typed};
+ghost use Rattle.std.specs.Prelude.{◌≡◌, ◌≢◌, ◌+◌, ◌∷◌, ◌^◌, ◌<◌, [], IfOk, OnOk, OnErr, IsSome, IsNone, None, ◌↔◌, ℕ, IfSome};
+ghost use Rattle.sv_tokens.specs.Counting.{times, Has};
+ghost use Rattle.sv_tokens.specs.Token.{named, Text as text_token, Anchor as anchor_token, opens, texts, anchors, begins, identifies, first_key, lacks_number, name_at, parent_at, IsPlace, IsBeside};
+ghost use Rattle.sv_tokens.specs.Numbering.{numbered};
+ghost use Rattle.sv_tokens.specs.Edit.{Moved, Removed, with_text, with_element, with_attribute, without_slot, with_typed};
 ghost use Rattle.sv_tokens.specs.Seen.{view_of};
 ghost use Rattle.sv_tokens.specs.Replay.{replay, replay_if, element_tokens, Gains, Edits};
 ghost use Rattle.sv_tokens.specs.declared.change.What.{What};
-ghost use Rattle.sv_tokens.specs.declared.change.Change.TheVariants.{Make};
+ghost use Rattle.sv_tokens.specs.declared.change.Change.TheVariants.{Make, Move};
 ghost use Rattle.sv_nodes.specs.Nodes.{leaf, start, finish, weight, tokens_of};
 ghost use Rattle.sv_nodes.specs.Sound.{IsSound};
 ghost use Rattle.sv_nodes.specs.Cells.{kind_of, cell_of, nodes_of};
-ghost use Rattle.sv_dom.specs.Dom.{empty_page, key_in, kind_of_what, removal};
+ghost use Rattle.sv_dom.specs.Dom.{empty_page, key_in, kind_of_what, relocation, removal};
 
 use slab::Slab;
 use std::alloc::Global;
 use std::marker::Model;
 use sv_base::{NoMemory, Text};
 use sv_nodes::{
-    Content, Element, Entry, entry_at, find_in, has_attribute, has_no_slot, has_text, has_typed,
-    make_node, remove_in, write_attribute, write_dropped, write_text, write_typed,
+    Content, Element, Entry, Followers, entry_at, find_in, has_attribute, has_no_slot, has_text,
+    has_typed, make_node, move_node, number_in, remove_in, write_attribute, write_dropped,
+    write_text, write_typed,
 };
 
 #[cfg(test)]
@@ -299,6 +301,24 @@ impl Dom {
         find_in(&self.nodes, self.next, 0, id).map(Node)
     }
 
+    /// Moves a node with all below it before another child of its parent, or to that one's end. `None` exactly
+    /// for an anchor and where the node, anchors aside, stands there already.
+    pub fn move_before(&mut self, node: Node, before: Option<Node>) -> Option<Change>
+        requires stands { Has (begins node.0) self.old.tokens }
+        requires below { node.0 ≢ 0 }
+        requires place { IsBeside self.old.tokens node.0 (key_in before) }
+        ensures tokens { Moved self.old.tokens self.new.tokens node.0 (parent_at node.0 self.old.tokens).key (key_in before) }
+        ensures next { self.new.next ≡ self.old.next }
+        ensures number { self.new.number ≡ self.old.number }
+        ensures told { view_of self.new ≡ replay_if result (view_of self.old) }
+        ensures none { IsNone result ↔ (view_of self.new ≡ view_of self.old) }
+        ensures some { IfSome result (λ told. (place : ℕ) × (told ≡ Move (name_at node.0 self.old.tokens).serial place)) }
+    {
+        let before = key_of(before);
+        let followers = move_node(&mut self.nodes, node.0, before);
+        relocation_of(entry_at(&self.nodes, node.0 as usize), followers)
+    }
+
     /// Takes away a node and all below it. `None` exactly for an anchor, which nobody sees.
     pub fn remove(&mut self, node: Node) -> Option<Change>
         requires stands { Has (begins node.0) self.old.tokens }
@@ -312,6 +332,18 @@ impl Dom {
         let told = removal_of(entry_at(&self.nodes, node.0 as usize));
         remove_in(&mut self.nodes, self.next, node.0);
         told
+    }
+
+    /// Gives each element and each text that has no printed number the next one, in document order, from 1. A
+    /// number stays with its node, and none is used again.
+    pub fn number(&mut self)
+        ensures tokens { self.new.tokens ≡ numbered self.old.number self.old.tokens }
+        ensures given { times lacks_number self.new.tokens ≡ 0 }
+        ensures number { self.new.number ≡ self.old.number + times lacks_number self.old.tokens }
+        ensures next { self.new.next ≡ self.old.next }
+        ensures seen { view_of self.new ≡ view_of self.old }
+    {
+        self.number = number_in(&mut self.nodes, self.next, 0, self.number);
     }
 }
 
@@ -327,6 +359,19 @@ impl Made {
             what,
         };
         (self.node, change)
+    }
+}
+
+// What is told where a node goes elsewhere.
+fn relocation_of(entry: &Entry, followers: Followers) -> Option<Change>
+    ensures { result ≡ relocation (cell_of entry.now) followers.earlier followers.later }
+{
+    let serial = entry.serial;
+    let before = followers.later;
+    match entry.content {
+        Content::Anchor => None,
+        _ if followers.earlier == before => None,
+        _ => Some(Change::Move { serial, before }),
     }
 }
 

@@ -1,7 +1,7 @@
 -- A node is printed round its children.
 use Rattle.std.proofs.Common.{◌≡◌, ◌<◌, ◌≤◌, ◌+◌, ℕ, List, [], ◌∷◌, ◌++◌, Bool, Option, length, get_or, drop, Some, refl, ap, sym, ◌∙◌, append_assoc, append-nil}
 use Rattle.sv_tokens.specs.Token.{Name, Token}
-use Rattle.sv_nodes.specs.Nodes.{Kind, element, text, anchor, Cell, Nodes, name_of, opening, ending, start, finish, walk, levels}
+use Rattle.sv_nodes.specs.Nodes.{Kind, element, text, anchor, Cell, Nodes, name_of, opening, ending, finish, walk, levels}
 use Rattle.sv_nodes.specs.Sound.{IsSound}
 use Rattle.sv_nodes.proofs.Walk.{walk-node}
 use Rattle.sv_nodes.proofs.Finding.{rest-cons, rest-none}

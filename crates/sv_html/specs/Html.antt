@@ -1,7 +1,7 @@
 -- The text of a page, token by token (the serialisation of fragments in the HTML standard, for the markup that a component may hold).
-use Rattle.std.specs.Prelude.{◌==◌, ◌||◌, Bool, true, false, ℕ, List, [], ◌∷◌, ◌++◌, codes, decimal, Option, Some, None, if◌then◌else◌}
+use Rattle.std.specs.Prelude.{◌==◌, ◌||◌, Bool, ℕ, List, [], ◌∷◌, ◌++◌, codes, decimal, Option, Some, None, if◌then◌else◌}
 use Rattle.std.specs.Str.{bytes_eq}
-use Rattle.sv_tokens.specs.Token.{Name, Element, Token, Open, Text, Anchor, Close}
+use Rattle.sv_tokens.specs.Token.{Element, Token, Open, Text, Anchor, Close}
 use Rattle.sv_tokens.specs.declared.element.Attr.{Attr}
 use Rattle.sv_tokens.specs.declared.element.Attr.TheVariants as attr
 use Rattle.sv_tokens.specs.declared.element.Attribute.{Attribute}

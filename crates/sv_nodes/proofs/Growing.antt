@@ -21,7 +21,7 @@ opens-element k n p number (element e) h = (e, refl)
 opens-element k n p number (text bytes) h = absurd (no h)
 opens-element k n p number anchor h = absurd (no h)
 
-spot-of : (at : Nodes) (n parent : ℕ) (before : Option ℕ) (back : List ℕ) (node : Name) (name : List ℕ) (post : List Token) → node.key ≡ parent → IsBack before back → Within at n back → 1 ≤ n
+pub spot-of : (at : Nodes) (n parent : ℕ) (before : Option ℕ) (back : List ℕ) (node : Name) (name : List ℕ) (post : List Token) → node.key ≡ parent → IsBack before back → Within at n back → 1 ≤ n
     → leads (spot parent before) (walk n at back ++ (Close node name ∷ post)) ≡ true
 spot-of at n parent None back node name post same place within room =
     rw (place, walk-nil n at) (eq-eqb node.key parent same)
@@ -59,14 +59,14 @@ pub among-right : (x : ℕ) (xs ys : List ℕ) → IsAmong x ys → IsAmong x (x
 among-right x [] ys among = among
 among-right x (k ∷ xs) ys among = inr (among-right x xs ys among)
 
-among-grown : (x key : ℕ) (front back : List ℕ) → IsAmong x (front ++ back) → IsAmong x (front ++ (key ∷ back))
+pub among-grown : (x key : ℕ) (front back : List ℕ) → IsAmong x (front ++ back) → IsAmong x (front ++ (key ∷ back))
 among-grown x key front back among = go (among-append x front back among)
   where
     go : IsAmong x front ⊎ IsAmong x back → IsAmong x (front ++ (key ∷ back))
     go (inl h) = among-left x front (key ∷ back) h
     go (inr h) = among-right x front (key ∷ back) (inr h)
 
-parts-grown : (at : Nodes) (parent : Name) (key : ℕ) (front back : List ℕ) → AreParts at parent (front ++ back) → IsPart at parent key → AreParts at parent (front ++ (key ∷ back))
+pub parts-grown : (at : Nodes) (parent : Name) (key : ℕ) (front back : List ℕ) → AreParts at parent (front ++ back) → IsPart at parent key → AreParts at parent (front ++ (key ∷ back))
 parts-grown at parent key [] back parts part = (part, parts)
 parts-grown at parent key (k ∷ front) back parts part = (parts.0, parts-grown at parent key front back parts.1 part)
 

@@ -5,9 +5,13 @@ pub mod Growing
 pub mod Rewriting
 pub mod Shrinking
 pub mod Removing
+pub mod Shifting
+pub mod Moving
 pub mod Slabs
 pub mod Places
 pub mod Starting
 pub mod Finding
 pub mod Attributes
 pub mod Shown
+pub mod Numbering
+pub mod Numbered

@@ -27,11 +27,11 @@ part-among at parent x [] parts among = absurd among
 part-among at parent x (k ∷ ks) parts (inl e) = subst (λ z. IsPart at parent z) e parts.0
 part-among at parent x (k ∷ ks) parts (inr later) = part-among at parent x ks parts.1 later
 
-parts-cut : (at : Nodes) (parent : Name) (key : ℕ) (front back : List ℕ) → AreParts at parent (front ++ (key ∷ back)) → AreParts at parent (front ++ back)
+pub parts-cut : (at : Nodes) (parent : Name) (key : ℕ) (front back : List ℕ) → AreParts at parent (front ++ (key ∷ back)) → AreParts at parent (front ++ back)
 parts-cut at parent key [] back parts = parts.1
 parts-cut at parent key (k ∷ front) back parts = (parts.0, parts-cut at parent key front back parts.1)
 
-among-cut : (x key : ℕ) (front back : List ℕ) → x ≢ key → IsAmong x (front ++ (key ∷ back)) → IsAmong x (front ++ back)
+pub among-cut : (x key : ℕ) (front back : List ℕ) → x ≢ key → IsAmong x (front ++ (key ∷ back)) → IsAmong x (front ++ back)
 among-cut x key front back ne among = go (among-append x front (key ∷ back) among)
   where
     go : IsAmong x front ⊎ IsAmong x (key ∷ back) → IsAmong x (front ++ back)

@@ -22,6 +22,14 @@ cuts-at x (k ∷ ks) (suc n) here =
     let rest = cuts-at x ks n here in
     record { front = k ∷ rest.front; back = rest.back; was = ap (λ z. k ∷ z) rest.was; now = ap (λ z. k ∷ z) rest.now }
 
+-- what stands behind a child
+pub cuts-behind : (x : ℕ) (ks : List ℕ) (n : ℕ) (here : IsBack (Some x) (drop n ks)) → (cuts-at x ks n here).back ≡ drop (suc n) ks
+unfolding cuts-at
+cuts-behind x [] zero here = absurd here
+cuts-behind x [] (suc n) here = absurd here
+cuts-behind x (k ∷ ks) zero here = refl
+cuts-behind x (k ∷ ks) (suc n) here = cuts-behind x ks n here
+
 -- a child among the first is the last of them, or among those before
 pub among-fewer : (x : ℕ) (ks : List ℕ) (n : ℕ) → n < length ks → get_or ks n 0 ≢ x → IsAmong x (take (suc n) ks) → IsAmong x (take n ks)
 among-fewer x [] n inside other among = absurd among

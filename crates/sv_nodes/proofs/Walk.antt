@@ -1,5 +1,5 @@
 -- The tokens of a page round one node.
-use Rattle.std.proofs.Common.{◌≡◌, ◌≢◌, ◌<◌, ◌≤◌, ◌+◌, ◌==◌, ℕ, zero, suc, List, [], ◌∷◌, ◌++◌, true, false, Option, Some, None, refl, ap, sym, ◌∙◌, arith, ◌⊎◌, inl, inr, subst, append_assoc, append-nil}
+use Rattle.std.proofs.Common.{◌≡◌, ◌≢◌, ◌<◌, ◌≤◌, ◌+◌, ◌-◌, ◌==◌, ℕ, zero, suc, List, [], ◌∷◌, ◌++◌, true, false, Option, Some, None, refl, ap, sym, ◌∙◌, arith, ◌⊎◌, inl, inr, subst, append_assoc, append-nil}
 use Rattle.std.proofs.lemmas.Bool.{cases_eq, cases_lt, eq-eqb, ne_eqb}
 use Rattle.sv_tokens.specs.Counting.{times, one, Has}
 use Rattle.sv_tokens.specs.Token.{Name, Token, begins, closes}
@@ -271,6 +271,24 @@ unfolding walk
 stable zero at next sound [] within = refl
 stable zero at next sound (k ∷ ks) within = absurd (too_deep at next k within.0 sound within.1 within.2)
 stable (suc n) at next sound ks within = over-stable at next n sound (stable n at next sound) ks within
+
+within-more : (at : Nodes) (n d : ℕ) (ks : List ℕ) → Within at n ks → Within at (n + d) ks
+within-more at n d [] within = tt
+within-more at n d (k ∷ ks) within = (within.0, within.1, omega (arith, within.2), within-more at n d ks within.3)
+
+steady : (d m n : ℕ) (at : Nodes) (next : ℕ) → m ≡ n + d → IsSound at next → (ks : List ℕ) → Within at n ks → walk m at ks ≡ walk n at ks
+steady zero m n at next e sound ks within = let same : m ≡ n = omega (arith, e) in ap (λ z. walk z at ks) same
+steady (suc d) m n at next e sound ks within =
+    let more : m ≡ suc (n + d) = omega (arith, e) in
+    ap (λ z. walk z at ks) more ∙ (stable (n + d) at next sound ks (within-more at n d ks within) ∙ steady d (n + d) n at next refl sound ks within)
+
+-- where no tree has more levels, it does not matter how many there are
+pub walk-levels : (m n : ℕ) (at : Nodes) (next : ℕ) → IsSound at next → (ks : List ℕ) → Within at m ks → Within at n ks → walk m at ks ≡ walk n at ks
+walk-levels m n at next sound ks deep enough = by (cases_lt n m)
+  where
+    by : (n < m) ⊎ (m ≤ n) → walk m at ks ≡ walk n at ks
+    by (inl less) = (let e : m ≡ n + (m - n) = omega (arith, less) in steady (m - n) m n at next e sound ks enough)
+    by (inr most) = (let e : n ≡ m + (n - m) = omega (arith, most) in sym (steady (n - m) n m at next e sound ks deep))
 
 top : (n : ℕ) × (levels ≡ suc n)
 unfolding levels

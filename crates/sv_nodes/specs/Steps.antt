@@ -1,5 +1,5 @@
 -- Single steps on nodes under keys: one is rewritten, one comes, one without children goes.
-use Rattle.std.specs.Prelude.{◌≡◌, ◌≢◌, ℕ, List, [], ◌∷◌, ◌++◌, Option, Some, None, option_map, ◌≤◌, length, drop}
+use Rattle.std.specs.Prelude.{◌≡◌, ◌≢◌, ℕ, List, [], ◌∷◌, ◌++◌, Option, Some, None, option_map, ◌≤◌, length, drop, insert, remove}
 use Rattle.sv_tokens.specs.Counting.{Has}
 use Rattle.sv_tokens.specs.Token.{Token, begins, IsSpan}
 use Rattle.sv_nodes.specs.Nodes.{Kind, Cell, Nodes, name_of, leaf, with_children, tokens_of}
@@ -35,6 +35,12 @@ pub record Cuts (key : ℕ) (old new : List ℕ) : Type 0 where
   pub back : List ℕ
   pub was : old ≡ front ++ (key ∷ back)
   pub now : new ≡ front ++ back
+
+-- the child at a place was put before another one, or at the end
+pub record Reorders (key from to : ℕ) (before : Option ℕ) (old new : List ℕ) : Type 0 where
+  pub child : IsStart (Some key) from old
+  pub place : IsStart before to (remove old from)
+  pub is : new ≡ insert (remove old from) to key
 
 -- the last child, or that there is none
 abbrev pub IsLast : List ℕ → Option ℕ → Type 0

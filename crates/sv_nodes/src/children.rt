@@ -1,7 +1,9 @@
 // The keys of a node's children.
-ghost use Rattle.std.specs.Prelude.{◌≡◌, ◌≤◌, OnOk, OnErr, Some, length};
+ghost use Rattle.std.specs.Prelude.{◌≡◌, ◌≤◌, ◌<◌, OnOk, OnErr, Some, length};
+ghost use Rattle.std.specs.List.{insert, remove};
+ghost use Rattle.std.specs.Vec.{vec_len, vec_capacity};
 ghost use Rattle.sv_nodes.specs.Sound.{IsAmong, IsAt};
-ghost use Rattle.sv_nodes.specs.Steps.{IsStart, Grows, Cuts};
+ghost use Rattle.sv_nodes.specs.Steps.{IsStart, Grows, Cuts, Reorders};
 
 use sv_base::NoMemory;
 
@@ -48,4 +50,34 @@ pub(crate) fn cut_child(children: &mut Vec<u32>, child: u32)
 {
     let at = place_of_child(children, child);
     children.remove(at);
+}
+
+// Puts the child at a place before another one, or at the end, and says where it stands now.
+pub(crate) fn shift_child(
+    children: &mut Vec<u32>,
+    child: u32,
+    from: usize,
+    before: Option<u32>,
+) -> usize
+    requires child { IsStart (Some child) from children.old.items }
+    requires place { IsAt before (remove children.old.items from) }
+    ensures shifted { Reorders child from result before children.old.items children.new.items }
+    ensures bound { result < usize.MAX }
+{
+    children.remove(from);
+    let to = place_of(children, before);
+    insert_within(children, to, child);
+    to
+}
+
+// Adds a child at a place where there is room for it.
+fn insert_within(children: &mut Vec<u32>, at: usize, child: u32)
+    requires inside { at ≤ length children.old.items }
+    requires room { vec_len children.old < vec_capacity children.old }
+    ensures { children.new.items ≡ insert children.old.items at child }
+{
+    match children.insert(at, child) {
+        Ok(()) => (),
+        Err(_) => unreachable!(),
+    }
 }

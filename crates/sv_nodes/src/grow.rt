@@ -15,7 +15,7 @@ use std::alloc::Global;
 use sv_base::NoMemory;
 
 // The place before a child of a node, or the end of its children.
-fn place_in(nodes: &Slab<Entry>, parent: usize, before: Option<u32>) -> usize
+pub(crate) fn place_in(nodes: &Slab<Entry>, parent: usize, before: Option<u32>) -> usize
     requires { IsSomeAnd (get nodes.now parent) (λ entry. IsAt before entry.children.items) }
     ensures { IfSome (get nodes.now parent) (λ entry. IsStart before result entry.children.items) }
 {

@@ -7,12 +7,16 @@ mod edit;
 mod entry;
 mod find;
 mod grow;
+mod number;
 mod same;
+mod shift;
 mod shrink;
 
 pub use edit::{write_attribute, write_dropped, write_text, write_typed};
 pub use entry::{Content, Element, Entry, entry_at};
 pub use find::{find_in, follower};
 pub use grow::{Made, make_node};
+pub use number::number_in;
 pub use same::{has_attribute, has_no_slot, has_text, has_typed};
+pub use shift::{Followers, move_node};
 pub use shrink::remove_in;

@@ -3,3 +3,4 @@ pub mod Token
 pub mod Edit
 pub mod Seen
 pub mod Replay
+pub mod Numbering

@@ -108,6 +108,11 @@ abbrev pub name_at : ℕ → List Token → Name
 name_at key [] = named key 0
 name_at key (t ∷ ts) = if begins key t then node_of t else name_at key ts
 
+-- the name of the parent of the node at that key, where it stands
+abbrev pub parent_at : ℕ → List Token → Name
+parent_at key [] = named 0 0
+parent_at key (t ∷ ts) = if begins key t then parent_of t else parent_at key ts
+
 -- the value is that text
 abbrev pub is_text : List ℕ → Attr → Bool
 is_text bytes attr.Flag = false
@@ -135,3 +140,8 @@ pub data IsSpan : ℕ → List Token → Type 0 where
 abbrev pub IsPlace : List Token → (parent : ℕ) (before : Option ℕ) → Type 0
 IsPlace tokens parent None = Has (opens parent) tokens
 IsPlace tokens parent (Some before) = Has (opens parent) tokens × Has (is_child parent before) tokens × (before ≢ 0)
+
+-- the place before another child of the node's parent, or at that one's end
+abbrev pub IsBeside : List Token → (node : ℕ) (before : Option ℕ) → Type 0
+IsBeside tokens node None = Unit {0}
+IsBeside tokens node (Some before) = (parent : ℕ) × Has (is_child parent node) tokens × Has (is_child parent before) tokens × (before ≢ 0) × (before ≢ node)

@@ -1,4 +1,4 @@
-use Rattle.std.proofs.Common.{◌≡◌, ◌∙◌, ◌++◌, ap, take}
+use Rattle.std.proofs.Common.{◌∙◌, ◌++◌, ap}
 use Rattle.sv_tokens.specs.declared.element.Attr.TheVariants.{Flag}
 use Rattle.sv_html.specs.Html.{attributes_html}
 use Rattle.sv_html.proofs.Laying.{printed-lay}
