@@ -1,0 +1,2 @@
+pub mod ReactiveOrder
+pub mod Points

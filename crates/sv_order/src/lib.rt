@@ -1,0 +1,12 @@
+//! The order in which the reactive statements of a component run.
+#![tactic(auto)]
+
+mod links;
+mod names;
+mod reads;
+mod sorting;
+#[cfg(test)]
+mod tests;
+
+pub use reads::{OrderError, Reads};
+pub use sorting::order;

@@ -1,0 +1,10 @@
+pub mod Points
+pub mod Visiting
+pub mod Walking
+pub mod Underway
+pub mod Work
+pub mod Searching
+pub mod SearchWork
+pub mod Turning
+pub mod Cycling
+pub mod Flooding

@@ -1,0 +1,15 @@
+//! Points that are linked to others: the order in which visits place them, each behind those that it is linked to, or the
+//! first cycle of links.
+#![tactic(auto)]
+
+mod cycle;
+mod groups;
+mod marks;
+mod outcome;
+#[cfg(test)]
+mod tests;
+mod turn;
+mod walk;
+
+pub use outcome::{Visited, visit};
+pub use turn::unlinked;
