@@ -13,7 +13,8 @@ use Rattle.sv_visits.proofs.Points.{in_cons}
 use Rattle.sv_visits.proofs.Turning.{unlinked-none}
 use Rattle.sv_visits.proofs.Underway.{range-more}
 use Rattle.sv_order.specs.declared.reads.Reads.{Reads}
-use Rattle.sv_order.specs.ReactiveOrder.{same_ref, has, reads_of, sets_of, needs_of, setters_of, before_of}
+use Rattle.sv_names.specs.Distinct.{same_ref, has}
+use Rattle.sv_order.specs.ReactiveOrder.{reads_of, sets_of, needs_of, setters_of, before_of}
 use Rattle.sv_order.specs.Points.{KnowsAll, IsTwoStep, points_of, with_setter, AreBelow, NotesSetter}
 
 -- the statements below a number that assign a name

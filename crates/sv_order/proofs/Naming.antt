@@ -10,7 +10,8 @@ use Rattle.sv_ast.specs.declared.names.Ref.TheVariants.{Plain, Store}
 use Rattle.sv_visits.specs.Links.{is_in}
 use Rattle.sv_visits.proofs.Points.{in_head, in_tail, in_cons, in_left, in_right, in_parts}
 use Rattle.sv_order.specs.declared.reads.Reads.{Reads}
-use Rattle.sv_order.specs.ReactiveOrder.{same_ref, has, reads_of, sets_of, Before, needs_of, setters_of, before_of}
+use Rattle.sv_names.specs.Distinct.{same_ref, has}
+use Rattle.sv_order.specs.ReactiveOrder.{reads_of, sets_of, Before, needs_of, setters_of, before_of}
 
 pub same_ref-true : (a b : Ref) → same_ref a b ≡ true → a ≡ b
 same_ref-true (Plain a) (Plain b) e = let n : a.0 ≡ b.0 = eqb-true a.0 b.0 e in ap (λ z. Plain (record { 0 = z })) n

@@ -10,7 +10,7 @@ use Rattle.std.proofs.lemmas.List.Quantifiers.{position-Some}
 use Rattle.sv_ast.specs.declared.names.Ref.{Ref}
 use Rattle.sv_visits.specs.Links.{is_in, links_of}
 use Rattle.sv_visits.proofs.Points.{in_head, in_tail, in_push_cases}
-use Rattle.sv_order.specs.ReactiveOrder.{same_ref, has}
+use Rattle.sv_names.specs.Distinct.{same_ref, has}
 use Rattle.sv_order.specs.Points.{is_last, points_of, with_setter, AreBelow, NotesSetter, TellsOwn}
 use Rattle.sv_order.proofs.Naming.{same_ref-true, has-append, has-cons, has-head, filter-yes, filter-no}
 

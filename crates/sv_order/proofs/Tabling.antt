@@ -9,7 +9,8 @@ use Rattle.sv_ast.specs.declared.names.Ref.{Ref}
 use Rattle.sv_ast.specs.declared.names.Ref.TheVariants.{Plain, Store}
 use Rattle.sv_ast.specs.contracts.names.RefPartialEq.TheImpl as ref_impl
 use Rattle.sv_order.specs.declared.reads.Reads.{Reads}
-use Rattle.sv_order.specs.ReactiveOrder.{same_ref, has, sets_of}
+use Rattle.sv_names.specs.Distinct.{same_ref, has}
+use Rattle.sv_order.specs.ReactiveOrder.{sets_of}
 use Rattle.sv_order.specs.Points.{Keeps, KnowsAll}
 use Rattle.sv_order.proofs.Naming.{has-append, has-cons, has-head}
 

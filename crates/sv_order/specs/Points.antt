@@ -6,7 +6,8 @@ use Rattle.std.specs.Option.{option_map}
 use Rattle.sv_ast.specs.declared.names.Ref.{Ref}
 use Rattle.sv_visits.specs.Links.{is_in, links_of, IsLink}
 use Rattle.sv_order.specs.declared.reads.Reads.{Reads}
-use Rattle.sv_order.specs.ReactiveOrder.{same_ref, has, sets_of}
+use Rattle.sv_names.specs.Distinct.{same_ref, has}
+use Rattle.sv_order.specs.ReactiveOrder.{sets_of}
 
 -- names that were added to others
 pub record Keeps (old more new : List Ref) : Type 0 where

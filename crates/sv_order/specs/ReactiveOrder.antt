@@ -1,25 +1,15 @@
 -- The order of reactive statements, by the variables that each assigns and uses itself (Svelte 4 docs, '$: marks a statement
 -- as reactive'). A statement is named by its place in the list.
 use Rattle.std.specs.Prelude.{◌≡◌, ℕ, ◌==◌, not, Bool, true, false, List, [], ◌∷◌, ◌++◌, length, map, filter, slice_index_or, count_by, nat_lt, if◌then◌else◌}
-use Rattle.std.specs.List.{list_any, flat_map, range_with_len}
+use Rattle.std.specs.List.{flat_map, range_with_len}
 use Rattle.sv_ast.specs.declared.names.Ref.{Ref}
-use Rattle.sv_ast.specs.declared.names.Ref.TheVariants.{Plain, Store}
+use Rattle.sv_names.specs.Distinct.{has}
 use Rattle.sv_visits.specs.Links.{is_in}
 use Rattle.sv_visits.specs.Visits.{Visits}
 use Rattle.sv_visits.specs.Cycle.{IsFirstCycle}
 use Rattle.sv_order.specs.declared.reads.OrderError.{OrderError}
 use Rattle.sv_order.specs.declared.reads.OrderError.TheVariants.{Cycle, NoMemory}
 use Rattle.sv_order.specs.declared.reads.Reads.{Reads}
-
--- whether two names are one: `x` and the store `$x` differ
-abbrev pub same_ref : Ref → Ref → Bool
-same_ref (Plain a) (Plain b) = a.0 == b.0
-same_ref (Store a) (Store b) = a.0 == b.0
-same_ref _ _ = false
-
--- whether a name is in a list
-abbrev pub has : Ref → List Ref → Bool
-has name names = list_any (same_ref name) names
 
 -- what a statement reads, and what it assigns
 abbrev pub reads_of : List Reads → ℕ → List Ref

@@ -1,7 +1,8 @@
 // The points for visits: the statements by their places, and behind them the assigned names by their numbers.
 ghost use Rattle.std.specs.Prelude.{◌≡◌, ◌+◌, ◌<◌, ◌≤◌, ◌^◌, ℕ, [], ◌∷◌, ◌++◌, IfOk, OnOk, length, filter, not, if◌then◌else◌};
 ghost use Rattle.sv_visits.specs.Links.{links_of, IsWhole};
-ghost use Rattle.sv_order.specs.ReactiveOrder.{has, before_of};
+ghost use Rattle.sv_names.specs.Distinct.{has};
+ghost use Rattle.sv_order.specs.ReactiveOrder.{before_of};
 ghost use Rattle.sv_order.specs.Points.{KnowsAll, IsTwoStep, is_last, points_of, NotesSetter, TellsOwn, AreBelow};
 
 use crate::names::number_of;

@@ -1,6 +1,7 @@
 // The names that some statement assigns, by number.
 ghost use Rattle.std.specs.Prelude.{◌≡◌, ℕ, IfOk, OnOk, true, position};
-ghost use Rattle.sv_order.specs.ReactiveOrder.{same_ref, has, sets_of};
+ghost use Rattle.sv_names.specs.Distinct.{same_ref, has};
+ghost use Rattle.sv_order.specs.ReactiveOrder.{sets_of};
 ghost use Rattle.sv_order.specs.Points.{KnowsAll, Keeps};
 
 use crate::reads::Reads;

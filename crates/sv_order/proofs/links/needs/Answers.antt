@@ -1,7 +1,7 @@
 use Rattle.std.proofs.Common.{sym, ◌∙◌}
 use Rattle.std.specs.Prelude.{not}
 use Rattle.std.proofs.lemmas.Bool.{not_from_true, not_from_false}
-use Rattle.sv_order.specs.ReactiveOrder.{has}
+use Rattle.sv_names.specs.Distinct.{has}
 use Rattle.sv_order.proofs.Setting.{needs-unknown, needs-own, needs-more, told}
 use Rattle.sv_order.proofs.links.needs.Goals as goal
 use Rattle.sv_order.proofs.links.needs.Goals.{in-Some+then-not-ends_with+in_ok-push, in-Some+else-not-ends_with, in_default}

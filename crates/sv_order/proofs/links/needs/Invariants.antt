@@ -1,6 +1,6 @@
 use Rattle.std.proofs.Common.{◌≡◌, take}
 use Rattle.std.specs.Prelude.{not}
-use Rattle.sv_order.specs.ReactiveOrder.{has}
+use Rattle.sv_names.specs.Distinct.{has}
 use Rattle.sv_order.proofs.Setting.{needed}
 use Rattle.sv_order.proofs.links.needs.Given as goal
 

@@ -1,0 +1,6 @@
+use Rattle.std.proofs.Common.{◌≡◌, map, drop}
+use Rattle.sv_names.specs.Distinct.{firsts, with_names}
+use Rattle.sv_names.proofs.lists.names_of.Given as goal
+
+abbrev pub invariant-loop-found : goal.invariant-loop-found
+invariant-loop-found l = firsts (map (λ u. u.name) l.uses) ≡ with_names l.names (map (λ u. u.name) (drop l.found-index l.uses))

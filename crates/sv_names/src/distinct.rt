@@ -1,0 +1,82 @@
+// Names, each once.
+ghost use Rattle.std.specs.Prelude.{◌≡◌, ◌≤◌, [], length, take, IfOk, OnOk};
+ghost use Rattle.sv_names.specs.Distinct.{has, with_name};
+
+use indexmap::IndexSet;
+use std::alloc::Global;
+use std::marker::Model;
+use sv_ast::{Ref, RefList};
+use sv_base::NoMemory;
+
+/// Names, each once, in the order in which they were put in. A clause sees it as the list of them.
+#[derive(Drop)]
+pub(crate) struct Distinct {
+    names: IndexSet<Ref>,
+}
+
+impl Model for Distinct {
+    ghost use Rattle.std.specs.Prelude.{List};
+    ghost use Rattle.sv_ast.specs.declared.names.Ref.{Ref};
+
+    ghost Value = { List Ref };
+
+    ghost view = { λ d. d.names.keys };
+}
+
+impl Distinct {
+    /// No names.
+    pub(crate) fn new(alloc: Global) -> Distinct
+        ensures { result ≡ [] }
+    {
+        Distinct {
+            names: IndexSet::new(alloc),
+        }
+    }
+
+    /// How many names there are.
+    pub(crate) fn len(&self) -> usize
+        ensures { result ≡ length self.now }
+    {
+        self.names.len()
+    }
+
+    /// Whether a name is there.
+    pub(crate) fn has(&self, name: Ref) -> bool
+        ensures { result ≡ has name self.now }
+    {
+        self.names.contains(&name)
+    }
+
+    /// Puts a name at the end, if it isn't there.
+    pub(crate) fn add(&mut self, name: Ref) -> Result<(), NoMemory>
+        ensures { OnOk result (self.new ≡ with_name self.old name) }
+    {
+        self.names.insert(name)?;
+        Ok(())
+    }
+
+    /// Keeps the first `count` names alone.
+    pub(crate) fn cut(&mut self, count: usize)
+        ensures { self.new ≡ take count self.old }
+    {
+        self.names.truncate(count);
+    }
+
+    /// The names as a list.
+    pub(crate) fn to_list(&self, alloc: Global) -> Result<RefList, NoMemory>
+        ensures { IfOk result (λ list. list ≡ self.now) }
+    {
+        copied(alloc, self.names.as_slice())
+    }
+}
+
+// A list of the same names.
+fn copied(alloc: Global, names: &[Ref]) -> Result<RefList, NoMemory>
+    ensures { IfOk result (λ list. list ≡ names.now) }
+{
+    let mut list = RefList::new(alloc);
+    for name in names {
+        list.push(*name)?;
+    }
+    Ok(list)
+}
