@@ -1,0 +1,10 @@
+pub mod Nodes
+pub mod Places
+pub mod Files
+pub mod Lists
+pub mod Rules
+pub mod Script
+pub mod Below
+pub mod Grammar
+pub mod Calls
+pub mod Laws

@@ -1,0 +1,22 @@
+//! Scripts: reads statements and whole files from tokens, above the rules of expressions, and the public calls.
+#![tactic(auto)]
+
+mod branches;
+mod calls;
+mod declarations;
+mod files;
+mod imports;
+mod knot;
+mod laws;
+mod leaves;
+mod lists;
+mod loops;
+mod place;
+mod statements;
+#[cfg(test)]
+mod tests;
+mod top;
+mod words;
+
+pub use calls::{parse_expr, parse_expr_in, parse_module_script, parse_script};
+pub use laws::{modules_are_in_the_grammar, scripts_are_in_the_grammar};
