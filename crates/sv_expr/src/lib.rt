@@ -24,4 +24,5 @@ pub use below::Enclosed;
 pub use form::Form;
 pub use grammar::{Grammar, LINK_LIMIT, NEST_LIMIT};
 pub use laws::{grammar_is_read, read_is_in_the_grammar, refused_for_cause};
+pub use leaves::target;
 pub use lists::{listed, parameters};

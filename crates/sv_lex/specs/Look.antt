@@ -1,9 +1,10 @@
 -- The tokens of a text, one behind the other.
-use Rattle.std.specs.Prelude.{ℕ, Bool, ◌==◌, List, drop}
+use Rattle.std.specs.Prelude.{ℕ, Bool, ◌&&◌, ◌==◌, List, length, drop}
 use Rattle.std.specs.List.{list_any}
 use denote.Enum.Bare.{sameb}
 use Rattle.sv_lex.specs.contracts.lexeme.Lexeme.{the_type}
 use Rattle.sv_lex.specs.declared.lexeme.Lexeme.{Lexeme}
+use Rattle.sv_lex.specs.declared.lexeme.Lexeme.TheVariants.{Name}
 use Rattle.sv_lex.specs.declared.pieces.Piece.TheVariants.{Blank}
 use Rattle.sv_lex.specs.Pieces.{rest}
 use Rattle.sv_lex.specs.Token.{token}
@@ -31,3 +32,7 @@ past z = drop (first_len z) (skip z)
 -- whether a line ends in the text
 unfoldable pub has_line_end : List ℕ → Bool
 has_line_end z = list_any (λ b. b == 10) z
+
+-- whether the text is one name
+unfoldable pub is_name : List ℕ → Bool
+is_name z = same_lexeme (token z).0 Name && (token z).1 == length z

@@ -1,6 +1,7 @@
 // A cursor over the tokens of a text.
 ghost use Rattle.std.specs.Prelude.{◌≡◌, ◌≤◌, ◌<◌, ◌+◌, ◌++◌, [], length, IfOk, OnOk};
 ghost use Rattle.sv_base.specs.Names.{IsTable};
+ghost use Rattle.sv_lex.specs.Bytes.{Closes};
 ghost use Rattle.sv_lex.specs.Literals as literals;
 ghost use Rattle.sv_lex.specs.Reader as spec;
 ghost use Rattle.sv_lex.specs.Reader.{Reads};
@@ -12,6 +13,7 @@ use crate::lexeme::Lexeme;
 use crate::look::{has_line_end, same_lexeme, skip};
 use crate::naming::{intern, is_text_of, name_text};
 use crate::pieces::{Piece, rest};
+use crate::source::Source;
 use crate::strings::Quote;
 use crate::token::{Token, token};
 use std::alloc::Global;
@@ -78,6 +80,83 @@ impl<'a> Tokens<'a> {
             ahead,
             token: token(ahead),
         }
+    }
+
+    /// A cursor over the tokens that begin where `source` stands.
+    pub fn from_source(source: Source<'a>) -> Tokens<'a>
+        ensures { result ≡ source.entry }
+    {
+        let Source {
+            alloc,
+            known,
+            added,
+            file,
+            text,
+            at,
+        } = source;
+        let ahead = skip(text);
+        Tokens {
+            alloc,
+            known,
+            added,
+            file,
+            text,
+            at,
+            ahead,
+            token: token(ahead),
+        }
+    }
+
+    /// A cursor over the bytes directly behind the last token.
+    pub fn into_source(self) -> Source<'a>
+        ensures { result ≡ self.entry }
+    {
+        let Tokens {
+            alloc,
+            known,
+            added,
+            file,
+            text,
+            at,
+            ..
+        } = self;
+        Source {
+            alloc,
+            known,
+            added,
+            file,
+            text,
+            at,
+        }
+    }
+
+    /// Takes the next token, which has to be of this kind, and goes on with the bytes directly behind it, at which it
+    /// doesn't look. Another token is refused.
+    #[tactic(auto, unfolding(crate::specs::Reader::expect, crate::specs::Reader::next, crate::specs::Reader::start, crate::specs::Reader::len, crate::specs::Look::first_len, crate::specs::Look::past))]
+    pub fn close(self, lexeme: Lexeme) -> Result<Source<'a>, ParseError>
+        ensures { Closes (spec.expect lexeme self.entry) result }
+    {
+        if !self.sees(lexeme) {
+            return Err(self.refuse(Kind::Syntax));
+        }
+        let at = self.start() + self.token.1 as u32;
+        let Tokens {
+            alloc,
+            known,
+            added,
+            file,
+            ahead,
+            token,
+            ..
+        } = self;
+        Ok(Source {
+            alloc,
+            known,
+            added,
+            file,
+            text: &ahead[token.1..],
+            at,
+        })
     }
 
     /// The kind of the next token.

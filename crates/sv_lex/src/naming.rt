@@ -1,9 +1,12 @@
 // Names that a parser adds to those that it was lent.
 ghost use Rattle.std.specs.Prelude.{◌≡◌, ◌++◌, slice_get, IfOk, OnOk, OnErr};
 ghost use Rattle.sv_base.specs.Names.{number_of, IsTable};
+ghost use Rattle.sv_lex.specs.Look.{is_name};
 ghost use Rattle.sv_lex.specs.Reader as spec;
 
-use crate::token::name_len;
+use crate::lexeme::Lexeme;
+use crate::look::same_lexeme;
+use crate::token::{name_len, token};
 use std::str;
 use sv_base::{NAME_LIMIT, Name, Names, NoMemory};
 
@@ -15,6 +18,15 @@ pub fn name_text(z: &[u8]) -> &str
         Ok(text) => text,
         Err(_) => unreachable!(),
     }
+}
+
+/// Whether the text is one name.
+#[tactic(auto, unfolding(crate::specs::Look::is_name))]
+pub fn is_name(z: &[u8]) -> bool
+    ensures { result ≡ is_name z.now }
+{
+    let (lexeme, len) = token(z);
+    same_lexeme(lexeme, Lexeme::Name) && len == z.len()
 }
 
 /// The name of a text, which goes to the added ones where the lent ones lack it.

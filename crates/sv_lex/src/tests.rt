@@ -1,7 +1,7 @@
 // White space, each kind of token, and the calls of the cursor.
 use crate::look::skip;
 use crate::token::token;
-use crate::{Lexeme, Tokens, first, past, same_lexeme};
+use crate::{Lexeme, Source, Tokens, first, is_name, name_len, name_text, past, same_lexeme};
 use std::alloc::Global;
 use std::test::Fail;
 use sv_ast::{Kind, ParseError, Refused};
@@ -176,4 +176,78 @@ fn statements_end_at_a_semicolon(rt: HostRuntime) -> Result<(), Fail> {
         Some(tokens.refuse(Kind::Syntax))
     );
     Ok(())
+}
+
+#[test]
+fn a_source_goes_by_bytes(rt: HostRuntime) -> Result<(), Fail> {
+    let known = Names::empty(rt.alloc());
+    let mut source = Source::new(rt.alloc(), &known, 3, b"<ab", 10);
+    assert_eq!(rt; source.left(), 3);
+    assert_eq!(rt; source.stop(Kind::Syntax), source.stop_at(Kind::Syntax, 10));
+    source.pass(1);
+    assert_eq!(rt; source.at(), 11);
+    assert_eq!(rt; source.text(), b"ab".as_slice());
+    assert_eq!(rt; source.intern("a")?, Name(0));
+    source.go_to(b"e", 40);
+    assert_eq!(rt; source.text(), b"e".as_slice());
+    assert_eq!(rt; source.into_added().len(), 1);
+    Ok(())
+}
+
+#[test]
+fn a_source_turns_into_tokens_and_back(rt: HostRuntime) -> Result<(), Fail> {
+    let known = Names::empty(rt.alloc());
+    let mut source = Source::new(rt.alloc(), &known, 3, b" /* b */ }/* d", 10);
+    let source = source.tokens().close(Lexeme::RBrace)?;
+    assert_eq!(rt; source.text(), b"/* d".as_slice());
+    assert_eq!(rt;
+        source.span_from(11),
+        Span {
+            file: 3,
+            from: 11,
+            to: 20
+        }
+    );
+    Ok(())
+}
+
+#[test]
+fn tokens_turn_into_a_source(rt: HostRuntime) {
+    let known = Names::empty(rt.alloc());
+    let mut tokens = Tokens::new(rt.alloc(), &known, 3, b"a b", 10);
+    tokens.take();
+    assert_eq!(rt; tokens.into_source().text(), b" b".as_slice());
+}
+
+#[test]
+fn a_wrong_token_does_not_close(rt: HostRuntime) {
+    let known = Names::empty(rt.alloc());
+    let tokens = Tokens::new(rt.alloc(), &known, 3, b" )", 10);
+    let at = Span {
+        file: 3,
+        from: 11,
+        to: 12,
+    };
+    assert_eq!(rt;
+        tokens.close(Lexeme::RBrace).err(),
+        Some(ParseError::Refused(Refused {
+            kind: Kind::Syntax,
+            at
+        }))
+    );
+}
+
+#[test]
+fn a_name_is_a_whole_text(rt: HostRuntime) {
+    for (text, is) in [
+        ("größe", true),
+        ("if", false),
+        ("a-b", false),
+        ("a ", false),
+        ("", false),
+    ] {
+        assert_eq!(rt; is_name(text.as_bytes()), is, "{text:?}");
+    }
+    assert_eq!(rt; name_len(b"ab-c"), 2);
+    assert_eq!(rt; name_text(b"ab-c"), "ab");
 }

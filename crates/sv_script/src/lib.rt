@@ -19,4 +19,5 @@ mod top;
 mod words;
 
 pub use calls::{parse_expr, parse_expr_in, parse_module_script, parse_script};
+pub use knot::{component, expression};
 pub use laws::{modules_are_in_the_grammar, scripts_are_in_the_grammar};
