@@ -32,14 +32,14 @@ use Rattle.sv_expr.proofs.EndSuffixes.{Enough, no_suffix_ends, suffix_ends, memb
 use Rattle.sv_expr.proofs.EndOperators.{no_link_ends, one_link_ends, no_nullish, operand_ends, grouped_ends, nullish_ends, either_ends, test_ends, choice_ends, body_block_ends, body_value_ends, arrow_ends, assignment_ends, condition_ends, level_operand_ends, level_whole_ends, level_bracketed_ends}
 
 -- what may stand in the way where the reader has room for one number of constructs and the tree has another, with what holds of the refusal
-record Cause (limits wide : Limits) (readers : ℕ → Readers) (block : ℕ → Parser (List Stmt)) (P : Refused → Type 0) (R : ℕ → ℕ → Type 0) (top : ℕ) : Type 0 where
-  full : (m : ℕ) → R zero (suc m) → (i : Input) → P (refusal TooDeep i)
-  less : (d m : ℕ) → R (suc d) (suc m) → R d m
-  links : limits.links < wide.links → (i : Input) → P (refusal TooDeep i)
-  numbers : limits.number < wide.number → (i : Input) → P (refusal NumberTooWide i)
-  blocks : (d m : ℕ) → R (suc d) (suc m) → (i o : Input) (found : List Stmt) → block m i ≡ Ok (found, o) → Ends P ((readers d).block i) (found, o)
-  within : (d m : ℕ) → R d m → m ≤ top
-  shrinks : (n : ℕ) → n < top → Shrinks (block n)
+pub record Cause (limits wide : Limits) (readers : ℕ → Readers) (block : ℕ → Parser (List Stmt)) (P : Refused → Type 0) (R : ℕ → ℕ → Type 0) (top : ℕ) : Type 0 where
+  pub full : (m : ℕ) → R zero (suc m) → (i : Input) → P (refusal TooDeep i)
+  pub less : (d m : ℕ) → R (suc d) (suc m) → R d m
+  pub links : limits.links < wide.links → (i : Input) → P (refusal TooDeep i)
+  pub numbers : limits.number < wide.number → (i : Input) → P (refusal NumberTooWide i)
+  pub blocks : (d m : ℕ) → R (suc d) (suc m) → (i o : Input) (found : List Stmt) → block m i ≡ Ok (found, o) → Ends P ((readers d).block i) (found, o)
+  pub within : (d m : ℕ) → R d m → m ≤ top
+  pub shrinks : (n : ℕ) → n < top → Shrinks (block n)
 
 module _ (limits wide : Limits) (readers : ℕ → Readers) (block : ℕ → Parser (List Stmt)) (P : Refused → Type 0) (R : ℕ → ℕ → Type 0) (top : ℕ)
     (nested : IsNested limits readers) (cause : Cause limits wide readers block P R top) where
@@ -58,7 +58,7 @@ module _ (limits wide : Limits) (readers : ℕ → Readers) (block : ℕ → Par
   few n le more i = cause.links (omega (arith, le, more)) i
 
   mutual
-    inside_ends : {m : ℕ} {f : Form} {i o : Input} {t : Expr} → g.Inside wide block m f i t o → (d : ℕ) → R d m → Ends P ((readers d).inside f i) (t, o)
+    pub inside_ends : {m : ℕ} {f : Form} {i o : Input} {t : Expr} → g.Inside wide block m f i t o → (d : ℕ) → R d m → Ends P ((readers d).inside f i) (t, o)
     inside_ends (g.inside_operand {d = m} {i = i} h q) zero r = no_inside m Operand i _ r
     inside_ends (g.inside_operand {d = m} {i = i} h q) (suc d) r = deeper d Operand i _ (level_operand_ends P limits d (readers d) i _ _ (prefix_ends h d r) q)
     inside_ends (g.inside_whole {d = m} {i = i} h q) zero r = no_inside m Whole i _ r
@@ -199,14 +199,14 @@ complete limits readers nested d shrinks form i o t h =
     } in
     ends_well (inside_ends limits limits readers (λ n. (readers n).block) (λ e. ⊥) R d nested none h d (refl, omega arith))
 
-abbrev Limited : Refused → Type 0
+abbrev pub Limited : Refused → Type 0
 Limited e = (e.kind ≡ TooDeep) ⊎ (e.kind ≡ NumberTooWide)
 
-too_deep : (i : Input) → Limited (refusal TooDeep i)
+pub too_deep : (i : Input) → Limited (refusal TooDeep i)
 unfolding refusal
 too_deep i = inl refl
 
-too_wide : (i : Input) → Limited (refusal NumberTooWide i)
+pub too_wide : (i : Input) → Limited (refusal NumberTooWide i)
 unfolding refusal
 too_wide i = inr refl
 

@@ -6,6 +6,7 @@ pub mod SoundLeaves
 pub mod SoundSuffixes
 pub mod SoundOperators
 pub mod Sound
+pub mod Ways
 pub mod Shrinks
 pub mod EndLists
 pub mod EndLeaves

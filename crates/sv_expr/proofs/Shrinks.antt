@@ -1,5 +1,5 @@
 -- What is in the grammar begins with no closing token, and what it leaves is no longer than what it was given.
-use Rattle.std.proofs.Common.{◌≡◌, ◌≢◌, ◌≤◌, ◌<◌, ℕ, suc, Bool, true, false, List, refl, ap, sym, ◌∙◌, arith}
+use Rattle.std.proofs.Common.{◌≡◌, ◌≢◌, ◌≤◌, ◌<◌, ℕ, suc, ◌+◌, Bool, true, false, List, refl, ap, sym, ◌∙◌, arith}
 use Rattle.std.specs.Prelude.{Some}
 use Rattle.sv_ast.specs.declared.names.Named.{Named}
 use Rattle.sv_ast.specs.declared.names.Ref.{Ref}
@@ -14,13 +14,14 @@ use Rattle.sv_lex.specs.declared.lexeme.Lexeme.{Lexeme}
 use Rattle.sv_lex.specs.declared.lexeme.Lexeme.TheVariants as k
 use Rattle.sv_lex.specs.Look.{past}
 use Rattle.sv_lex.specs.Reader.{Input, Parser, sees, next, left}
-use Rattle.sv_lex.proofs.Progress.{next-le, run-less}
+use Rattle.sv_lex.proofs.Progress.{next-le, next-less, run-less}
 use Rattle.sv_expr.specs.declared.form.Form.{Form}
 use Rattle.sv_expr.specs.declared.quotients.Left.{Left}
 use Rattle.sv_expr.specs.Grammar as g
 use Rattle.sv_expr.specs.Laws.{Shrinks}
 use Rattle.sv_expr.specs.Limits.{Limits}
 use Rattle.sv_expr.specs.Operators.{bump, literal}
+use Rattle.sv_expr.proofs.Ways.{IsWay, inside_moves, item_moves, field_moves}
 use Rattle.sv_expr.proofs.Words.{is_word, text_next, left_as, word_past, name_past, string_past, numeral_past, word_text_sees, target_past}
 
 -- ---- how expressions begin
@@ -118,107 +119,36 @@ module _ (limits : Limits) (block : ℕ → Parser (List Stmt)) where
 
 -- ---- how much they leave
 
-shrinks : (i o : Input) → o.text ≡ past i.text → left o ≤ left i
-shrinks i o e = let same = left_as o (next i) (e ∙ sym (text_next i)) in let le = next-le i in omega (arith, same, le)
+abbrev Shorter : Input → Input → Type 0
+Shorter i o = left o ≤ left i
 
-target_shrinks : {i o : Input} {ref : Ref} → g.Target i ref o → left o ≤ left i
-target_shrinks {i = i} {o = o} t = shrinks i o (target_past t)
+abbrev Less : Input → Input → Type 0
+Less i o = left o + 1 ≤ left i
 
-names_shrink : {i o : Input} {xs : List Named} → g.Names i xs o → left o ≤ left i
-names_shrink (g.names_end {i = i} h) = next-le i
-names_shrink (g.names_last {i = i} {j = j} h e c) = let one = shrinks i j (name_past i j _ e) in let two = next-le j in omega arith
-names_shrink (g.names_more {i = i} {j = j} h e c rest) = let one = shrinks i j (name_past i j _ e) in let two = next-le j in let all = names_shrink rest in omega arith
+shorter : (i o : Input) → o.text ≡ past i.text → left o ≤ left i
+shorter i o e = let same = left_as o (next i) (e ∙ sym (text_next i)) in let le = next-le i in omega (arith, same, le)
 
-params_shrink : {i o : Input} {xs : List Named} → g.Params i xs o → left o ≤ left i
-params_shrink (g.one {i = i} {o = o} h e) = shrinks i o (name_past i o _ e)
-params_shrink (g.several {i = i} h rest) = let one = next-le i in let all = names_shrink rest in omega arith
+less : (i o : Input) → sees i ≢ k.End → o.text ≡ past i.text → left o + 1 ≤ left i
+less i o some e = let same = left_as o (next i) (e ∙ sym (text_next i)) in let lt = next-less i some in omega (arith, same, lt)
 
-module _ (limits : Limits) (block : ℕ → Parser (List Stmt)) (top : ℕ) (less : (n : ℕ) → n < top → Shrinks (block n)) where
-  below : (d : ℕ) → suc d ≤ top → d ≤ top
-  below d le = omega (arith, le)
+-- each token takes a byte
+pub shrinking : IsWay Shorter Less
+shrinking = record {
+  stays = λ i. omega arith;
+  weaker = λ h. omega (arith, h);
+  along = λ h g. omega (arith, h, g);
+  on = λ h g. omega (arith, h, g);
+  passes = λ i o e known. shorter i o e;
+  takes = λ i o some e known. less i o some e;
+  runs = λ i o x h. run-less i o x h;
+}
 
-  mutual
-    pub inside_shrinks : {d : ℕ} {f : Form} {i o : Input} {t : Expr} → g.Inside limits block d f i t o → d ≤ top → left o ≤ left i
-    inside_shrinks (g.inside_operand p q) le = prefix_shrinks p le
-    inside_shrinks (g.inside_whole p q) le = full_shrinks p le
-    inside_shrinks (g.inside_bracketed p) le = full_shrinks p le
+module _ (limits : Limits) (block : ℕ → Parser (List Stmt)) (top : ℕ) (shrinks : (n : ℕ) → n < top → Shrinks (block n)) where
+  pub inside_shrinks : {d : ℕ} {f : Form} {i o : Input} {t : Expr} → g.Inside limits block d f i t o → d ≤ top → left o ≤ left i
+  inside_shrinks x le = shrinking.weaker (inside_moves shrinking limits block top shrinks x le)
 
-    full_shrinks : {d : ℕ} {i o : Input} {t : Expr} → g.Full limits block d i t o → suc d ≤ top → left o ≤ left i
-    full_shrinks (g.is_arrow {j = j} p a b) le = let one = params_shrink p in let two = next-le j in let all = body_shrinks b le in omega arith
-    full_shrinks (g.is_assignment {j = j} t h x) le = let one = target_shrinks t in let two = next-le j in let all = inside_shrinks x (below _ le) in omega arith
-    full_shrinks (g.is_condition a b c) le = cond_shrinks c le
+  pub item_shrinks : {d : ℕ} {i o : Input} {x : Entry} → g.Item limits block d i x o → suc d ≤ top → left o ≤ left i
+  item_shrinks x le = shrinking.weaker (item_moves shrinking limits block top shrinks x le)
 
-    body_shrinks : {d : ℕ} {i o : Input} {t : Body} → g.ArrowBody limits block d i t o → suc d ≤ top → left o ≤ left i
-    body_shrinks (g.body_block {d = d} {i = i} {o = o} h e) le = less d (omega (arith, le)) i o _ e
-    body_shrinks (g.body_value h x) le = inside_shrinks x (below _ le)
-
-    cond_shrinks : {d : ℕ} {i o : Input} {t : Expr} → g.Cond limits block d i t o → suc d ≤ top → left o ≤ left i
-    cond_shrinks (g.only_test l h) le = logical_shrinks l le
-    cond_shrinks (g.choice {j = j} {m = m} l h q x c y) le =
-        let one = logical_shrinks l le in let two = next-le j in let three = inside_shrinks x (below _ le) in let four = next-le m in let five = inside_shrinks y (below _ le) in omega arith
-
-    logical_shrinks : {d : ℕ} {i o : Input} {t : Expr} → g.Logical limits block d i t o → suc d ≤ top → left o ≤ left i
-    logical_shrinks (g.nullish b s ls n five six) le = let one = binary_shrinks b le in let two = links_shrink ls le in omega arith
-    logical_shrinks (g.either b ls n seven) le = let one = binary_shrinks b le in let two = links_shrink ls le in omega arith
-
-    binary_shrinks : {d n : ℕ} {i o : Input} {t : Expr} → g.Binary limits block d n i t o → suc d ≤ top → left o ≤ left i
-    binary_shrinks (g.operand p) le = prefix_shrinks p le
-    binary_shrinks (g.grouped b ls n) le = let one = binary_shrinks b le in let two = links_shrink ls le in omega arith
-
-    links_shrink : {d n group : ℕ} {side : Left} {i o : Input} {ls : List Link} → g.Links limits block d n group side i ls o → suc d ≤ top → left o ≤ left i
-    links_shrink (g.no_link h) le = omega arith
-    links_shrink (g.one_link {i = i} h b f ls) le = let one = next-le i in let two = binary_shrinks b le in let three = links_shrink ls le in omega arith
-
-    prefix_shrinks : {d : ℕ} {i o : Input} {t : Expr} → g.Prefix limits block d i t o → suc d ≤ top → left o ≤ left i
-    prefix_shrinks (g.negation {i = i} h x) le = let one = next-le i in let two = inside_shrinks x (below _ le) in omega arith
-    prefix_shrinks (g.minus {i = i} h x) le = let one = next-le i in let two = inside_shrinks x (below _ le) in omega arith
-    prefix_shrinks (g.bumped {i = i} h r t) le = let one = next-le i in let two = target_shrinks t in omega arith
-    prefix_shrinks (g.bumping {j = j} t b) le = let one = target_shrinks t in let two = next-le j in omega arith
-    prefix_shrinks (g.read t b s n) le = let one = target_shrinks t in let two = suffixes_shrink s le in omega arith
-    prefix_shrinks (g.suffixed p s n) le = let one = primary_shrinks p le in let two = suffixes_shrink s le in omega arith
-
-    suffixes_shrink : {d n from : ℕ} {i o : Input} {of t : Expr} → g.Suffixes limits block d n from of i t o → suc d ≤ top → left o ≤ left i
-    suffixes_shrink (g.no_suffix h) le = omega arith
-    suffixes_shrink (g.member {i = i} {j = j} q h w s) le =
-        let one = next-le i in let two = shrinks (next i) j (word_past (next i) j _ w) in let three = suffixes_shrink s le in omega arith
-    suffixes_shrink (g.index {i = i} {j = j} q h x c s) le = let one = next-le i in let two = inside_shrinks x (below _ le) in let three = next-le j in let four = suffixes_shrink s le in omega arith
-    suffixes_shrink (g.call {i = i} q h r a single s) le = let one = next-le i in let two = args_shrink a le in let three = suffixes_shrink s le in omega arith
-
-    args_shrink : {d : ℕ} {f : Form} {i o : Input} {xs : List Expr} → g.Args limits block d f i xs o → suc d ≤ top → left o ≤ left i
-    args_shrink (g.args_end {i = i} h) le = next-le i
-    args_shrink (g.args_last {j = j} x h) le = let one = inside_shrinks x (below _ le) in let two = next-le j in omega arith
-    args_shrink (g.args_more {j = j} x h a) le = let one = inside_shrinks x (below _ le) in let two = next-le j in let three = args_shrink a le in omega arith
-
-    entries_shrink : {d : ℕ} {i o : Input} {xs : List Entry} → g.Entries limits block d i xs o → suc d ≤ top → left o ≤ left i
-    entries_shrink (g.entries_end {i = i} h) le = next-le i
-    entries_shrink (g.entries_last {j = j} x h) le = let one = item_shrinks x le in let two = next-le j in omega arith
-    entries_shrink (g.entries_more {j = j} x h a) le = let one = item_shrinks x le in let two = next-le j in let three = entries_shrink a le in omega arith
-
-    pub item_shrinks : {d : ℕ} {i o : Input} {x : Entry} → g.Item limits block d i x o → suc d ≤ top → left o ≤ left i
-    item_shrinks (g.item n x) le = inside_shrinks x (below _ le)
-    item_shrinks (g.item_spread {i = i} h x) le = let one = next-le i in let two = inside_shrinks x (below _ le) in omega arith
-
-    fields_shrink : {d : ℕ} {i o : Input} {xs : List Field} → g.Fields limits block d i xs o → suc d ≤ top → left o ≤ left i
-    fields_shrink (g.fields_end {i = i} h) le = next-le i
-    fields_shrink (g.fields_last {j = j} x h) le = let one = field_shrinks x le in let two = next-le j in omega arith
-    fields_shrink (g.fields_more {j = j} x h a) le = let one = field_shrinks x le in let two = next-le j in let three = fields_shrink a le in omega arith
-
-    pub field_shrinks : {d : ℕ} {i o : Input} {x : Field} → g.OneField limits block d i x o → suc d ≤ top → left o ≤ left i
-    field_shrinks (g.field_name {i = i} {o = o} h c w n) le = shrinks i o (name_past i o _ n)
-    field_shrinks (g.field_word {i = i} w c x) le = let one = next-le i in let two = next-le (next i) in let three = inside_shrinks x (below _ le) in omega arith
-    field_shrinks (g.field_string {i = i} {j = j} h e c x) le = let one = shrinks i j (string_past i j _ e) in let two = next-le j in let three = inside_shrinks x (below _ le) in omega arith
-    field_shrinks (g.field_spread {i = i} h x) le = let one = next-le i in let two = inside_shrinks x (below _ le) in omega arith
-
-    parts_shrink : {d : ℕ} {i o : Input} {found all : List Expr} → g.Parts limits block d i found all o → suc d ≤ top → left o ≤ left i
-    parts_shrink (g.last_run {i = i} {o = o} e) le = let one = run-less i o _ e in omega arith
-    parts_shrink (g.hole {i = i} {j = j} {m = m} e x c p) le =
-        let one = run-less i j _ e in let two = inside_shrinks x (below _ le) in let three = next-le m in let four = parts_shrink p le in omega arith
-
-    primary_shrinks : {d : ℕ} {i o : Input} {t : Expr} → g.Primary limits block d i t o → suc d ≤ top → left o ≤ left i
-    primary_shrinks (g.number {i = i} {o = o} h e) le = shrinks i o (numeral_past _ i o _ e)
-    primary_shrinks (g.quoted {i = i} {o = o} h e) le = shrinks i o (string_past i o _ e)
-    primary_shrinks (g.template {i = i} h p) le = let one = next-le i in let two = parts_shrink p le in omega arith
-    primary_shrinks (g.constant {i = i} h) le = next-le i
-    primary_shrinks (g.bracket {i = i} {j = j} h x c) le = let one = next-le i in let two = inside_shrinks x (below _ le) in let three = next-le j in omega arith
-    primary_shrinks (g.list {i = i} h r xs) le = let one = next-le i in let two = entries_shrink xs le in omega arith
-    primary_shrinks (g.object {i = i} h r xs) le = let one = next-le i in let two = fields_shrink xs le in omega arith
+  pub field_shrinks : {d : ℕ} {i o : Input} {x : Field} → g.OneField limits block d i x o → suc d ≤ top → left o ≤ left i
+  field_shrinks x le = shrinking.weaker (field_moves shrinking limits block top shrinks x le)
