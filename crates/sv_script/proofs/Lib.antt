@@ -3,5 +3,12 @@ pub mod ArrowBlocks
 pub mod SoundSteps
 pub mod Sound
 pub mod SoundFiles
-pub mod KeepsExpr
+pub mod Ways
 pub mod Keeps
+pub mod EndSteps
+pub mod EndStatements
+pub mod End
+pub mod EndFiles
+pub mod EndScripts
+pub mod Agree
+pub mod Trees

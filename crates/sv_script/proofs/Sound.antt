@@ -1,16 +1,13 @@
 -- Statements that are read are in the grammar.
-use Rattle.std.proofs.Common.{◌≡◌, ◌≢◌, ◌≤◌, ◌⊎◌, inl, inr, ℕ, zero, suc, ◌+◌, Bool, true, false, ◌&&◌, List, [], ◌∷◌, ◌++◌, length, refl, ap, sym, ◌∙◌, subst, arith}
-use Rattle.std.specs.Prelude.{if◌then◌else◌, Option, Some, None, Ok, codes}
-use Rattle.sv_ast.specs.declared.names.Named.{Named}
+use Rattle.std.proofs.Common.{◌≡◌, ◌≢◌, ◌≤◌, ◌⊎◌, inl, inr, ℕ, zero, suc, Bool, true, false, ◌&&◌, List, [], ◌∷◌, ◌++◌, length, refl, ap, sym, ◌∙◌, subst, arith}
+use Rattle.std.specs.Prelude.{if◌then◌else◌, Some, None, Ok, codes}
 use Rattle.sv_ast.specs.declared.script_tree.Arm.{Arm}
-use Rattle.sv_ast.specs.declared.script_tree.Decl.{Decl}
 use Rattle.sv_ast.specs.declared.script_tree.Expr.{Expr}
 use Rattle.sv_ast.specs.declared.script_tree.Stmt.{Stmt}
 use Rattle.sv_lex.specs.declared.lexeme.Lexeme.{Lexeme}
 use Rattle.sv_lex.specs.declared.lexeme.Lexeme.TheVariants as k
-use Rattle.sv_lex.specs.Look.{same_lexeme}
-use Rattle.sv_lex.specs.Reader.{Input, Parser, and_then, ◌>>=◌, ◌>>◌, pure, expect, ending, is_later, sees, sees_one, next, start, spelling, name}
-use Rattle.sv_lex.proofs.Sees.{same, other, seen, unseen, sees_yes, sees_no}
+use Rattle.sv_lex.specs.Reader.{Input, Parser, and_then, ◌>>=◌, ◌>>◌, pure, expect, ending, is_later, sees, sees_one, next, start, spelling}
+use Rattle.sv_lex.proofs.Sees.{seen, unseen, sees_no}
 use Rattle.sv_lex.proofs.Steps.{Holds, holds_then, holds_weaker, holds_if, holds_then_then, holds_test, holds_choice, holds_choice_then, holds_expect, holds_eat}
 use Rattle.sv_expr.specs.declared.form.Form.TheVariants.{Whole}
 use Rattle.sv_expr.specs.Laws.{IsNested}
@@ -22,7 +19,7 @@ use Rattle.sv_script.specs.declared.place.Place.{Place}
 use Rattle.sv_script.specs.Grammar as g
 use Rattle.sv_script.specs.Lists.{separated, upto}
 use Rattle.sv_script.specs.Nodes.{decl, arm}
-use Rattle.sv_script.specs.Places.{in_function, looped}
+use Rattle.sv_script.specs.Places.{looped}
 use Rattle.sv_script.specs.Rules as r
 use Rattle.sv_script.specs.Rules.{single, empty, break_statement, continue_statement, stops, begins_arm, begins_each, value, declared_as, declared, fixed, variables, let_statement, const_statement, test, arm_of, arms, otherwise, if_statement, while_statement, list_behind, each, head_let, head_value, head_statement, head_first, head_value_upto, steps, for_statement, nested, answer, return_statement, evaluated, statement, item, braced}
 use Rattle.sv_script.specs.Script.{bodies}
@@ -70,7 +67,7 @@ unfolding begins_each
 no_const i none e = unseen k.Const i (sym (ap (λ (b : Bool). if b then sees_one k.Name (next (next i)) else sees_one k.Const i) e) ∙ none)
 
 module _ (limits : Limits) where
-  abbrev readers : ℕ → Readers
+  abbrev pub readers : ℕ → Readers
   readers n = (bodies limits n).exprs
 
   abbrev pub block : ℕ → Parser (List Stmt)

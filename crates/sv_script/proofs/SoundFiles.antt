@@ -1,15 +1,13 @@
 -- Files that are read are in the grammar.
-use Rattle.std.proofs.Common.{◌≡◌, ◌≢◌, ℕ, Bool, true, false, List, [], ◌∷◌, refl, ap, sym, ◌∙◌, subst}
-use Rattle.std.specs.Prelude.{if◌then◌else◌, Option, Some, None, Ok, codes}
+use Rattle.std.proofs.Common.{◌≡◌, ℕ, Bool, true, false, refl, ap}
+use Rattle.std.specs.Prelude.{Ok, codes}
 use Rattle.std.specs.Str.{bytes_eq}
-use Rattle.sv_ast.specs.declared.names.Named.{Named}
-use Rattle.sv_ast.specs.declared.script_tree.Spec.{Spec}
 use Rattle.sv_ast.specs.declared.script_tree.Stmt.{Stmt}
 use Rattle.sv_lex.specs.declared.lexeme.Lexeme.{Lexeme}
 use Rattle.sv_lex.specs.declared.lexeme.Lexeme.TheVariants as k
 use Rattle.sv_lex.specs.Literals.{string}
-use Rattle.sv_lex.specs.Reader.{Input, Parser, and_then, sees, sees_one, next, start, spelling}
-use Rattle.sv_lex.proofs.Sees.{seen, unseen}
+use Rattle.sv_lex.specs.Reader.{Input, sees, sees_one, next, start, spelling}
+use Rattle.sv_lex.proofs.Sees.{seen}
 use Rattle.sv_lex.proofs.Steps.{Holds, holds_then, holds_then_then, holds_weaker, holds_if, holds_test, holds_choice_then}
 use Rattle.sv_expr.specs.Grammar.{Params}
 use Rattle.sv_expr.specs.Limits.{Limits}
@@ -17,7 +15,6 @@ use Rattle.sv_expr.specs.Lists.{listed, parameters}
 use Rattle.sv_expr.proofs.SoundLists.{holds_self, parameters_holds, IsList, listed_holds}
 use Rattle.sv_script.specs.Files.{is_source}
 use Rattle.sv_script.specs.Grammar as g
-use Rattle.sv_script.specs.Lists.{upto}
 use Rattle.sv_script.specs.Places.{top, in_function}
 use Rattle.sv_script.specs.Rules as r
 use Rattle.sv_script.specs.Rules.{func, params, variables, statement}

@@ -1,41 +1,40 @@
 -- What the public calls answer.
-use Rattle.std.specs.Prelude.{◌≡◌, ◌≤◌, ℕ, List, [], ◌++◌, length, take, Result, Ok, Err}
+use Rattle.std.specs.Prelude.{◌≡◌, ℕ, List, [], ◌++◌, length, take, Result, Ok, Err}
 use Rattle.sv_ast.specs.declared.files.Script.{Script}
+use Rattle.sv_ast.specs.declared.refusals.Kind.TheVariants.{Syntax}
 use Rattle.sv_ast.specs.declared.refusals.ParseError.{ParseError}
 use Rattle.sv_ast.specs.declared.refusals.ParseError.TheVariants as errors
 use Rattle.sv_ast.specs.declared.script_tree.Expr.{Expr}
 use Rattle.sv_ast.specs.declared.script_tree.Stmt.{Stmt}
-use Rattle.sv_lex.specs.Reader.{Input, Outcome}
-use Rattle.sv_expr.specs.declared.form.Form.TheVariants.{Whole}
-use Rattle.sv_expr.specs.Limits.{real}
-use Rattle.sv_expr.specs.Rules.{level}
-use Rattle.sv_script.specs.Script.{bodies, component, file_module}
+use Rattle.sv_lex.specs.Reader.{Input, Outcome, Fails}
+use Rattle.sv_expr.specs.Limits.{Limits, real}
+use Rattle.sv_script.specs.Closed.{IsExpression}
 
 -- a text that begins at a place of a file, with the names that are known
 abbrev pub input_of : ℕ → List ℕ → ℕ → List (List ℕ) → Input
 input_of file text from names = record { text = text; at = from; file = file; known = names; added = [] }
 
--- what is read from a component's script, a module's, and an expression where so many constructs may enclose one another
-abbrev pub component_in : ℕ → List ℕ → ℕ → List (List ℕ) → Outcome (List Stmt)
-component_in file text from names = component real (input_of file text from names)
+-- a tree stands at the front of a text
+abbrev pub HasTree : {A : Type 0} → (Input → A → Input → Type 0) → Input → Type 0
+HasTree {A} Is i = (x : A) × (o : Input) × Is i x o
 
-abbrev pub module_in : ℕ → List ℕ → List (List ℕ) → Outcome (List Stmt)
-module_in file text names = file_module real (input_of file text 0 names)
+-- no answer: where memory is wanted names may have been added behind those that were there. A refusal leaves them, and there is no tree within the limits; by one for the grammar's sake, within no limits
+abbrev pub Refuses : {L A : Type 0} → (L → Input → A → Input → Type 0) → L → Input → ParseError → List (List ℕ) → List (List ℕ) → Type 0
+Refuses {L} Is limits i errors.NoMemory old new = take (length old) new ≡ old
+Refuses {L} Is limits i (errors.Refused r) old new =
+    (HasTree (Is limits) i → ⊥) × (r.kind ≡ Syntax → (wide : L) → HasTree (Is wide) i → ⊥) × (new ≡ old)
 
-abbrev pub expression_in : ℕ → ℕ → List ℕ → ℕ → List (List ℕ) → Outcome Expr
-expression_in room file text from names = level real room (bodies real room).exprs Whole (input_of file text from names)
+-- the tree of a file, and the names that were added behind those that were known
+abbrev pub AnswersFile : (Limits → Input → List Stmt → Input → Type 0) → Input → Result Script ParseError → List (List ℕ) → Type 0
+AnswersFile Is i (Ok a) new = (o : Input) × Is real i a.stmts o × (new ≡ i.known ++ o.added)
+AnswersFile Is i (Err e) new = Refuses Is real i e i.known new
 
--- no answer where memory is wanted, and then names may have been added; a refusal leaves them
-abbrev pub Refuses : {A : Type 0} → Outcome A → ParseError → List (List ℕ) → List (List ℕ) → Type 0
-Refuses outcome errors.NoMemory old new = take (length old) new ≡ old
-Refuses outcome (errors.Refused r) old new = (outcome ≡ Err r) × (new ≡ old)
+-- an expression where so many constructs may enclose one another, and the place behind it
+abbrev pub AnswersPlace : ℕ → Input → Result (Expr × ℕ) ParseError → List (List ℕ) → Type 0
+AnswersPlace room i (Ok a) new = (o : Input) × IsExpression (real, room) i a.0 o × (a.1 ≡ o.at) × (new ≡ i.known ++ o.added)
+AnswersPlace room i (Err e) new = Refuses IsExpression (real, room) i e i.known new
 
--- what is read, with the names that were added behind those that were known
-abbrev pub AnswersScript : Outcome (List Stmt) → Result Script ParseError → List (List ℕ) → List (List ℕ) → Type 0
-AnswersScript outcome (Ok a) old new = (o : Input) × (outcome ≡ Ok (a.stmts, o)) × (new ≡ old ++ o.added)
-AnswersScript outcome (Err e) old new = Refuses outcome e old new
-
--- the same with the place behind the expression
-abbrev pub AnswersPlace : Outcome Expr → Result (Expr × ℕ) ParseError → List (List ℕ) → List (List ℕ) → Type 0
-AnswersPlace outcome (Ok a) old new = (o : Input) × (outcome ≡ Ok (a.0, o)) × (a.1 ≡ o.at) × (new ≡ old ++ o.added)
-AnswersPlace outcome (Err e) old new = Refuses outcome e old new
+-- a refusal is that of a reader
+abbrev pub RefusesAs : {A B : Type 0} → Outcome A → Result B ParseError → Type 0
+RefusesAs outcome (Ok b) = Unit {0}
+RefusesAs outcome (Err e) = Fails outcome e

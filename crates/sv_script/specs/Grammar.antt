@@ -1,13 +1,11 @@
 -- The grammar of statements and files, by cases: one constructor for each of its lines. `Rule d .. i x o` says that the text from `i` to `o` is `x` by the rule, with at most `d` constructs one inside another, within limits of links and numbers. A block of statements in an arrow is what `block` reads where there is so much room.
-use Rattle.std.specs.Prelude.{◌≡◌, ◌≢◌, ◌≤◌, ℕ, zero, suc, ◌++◌, ◌⊎◌, Bool, true, false, List, [], ◌∷◌, length, Option, Some, None, Ok, codes}
-use Rattle.std.specs.List.{All}
+use Rattle.std.specs.Prelude.{◌≡◌, ◌≢◌, ◌≤◌, ℕ, suc, ◌⊎◌, Bool, true, false, List, [], ◌∷◌, length, Option, Some, None, Ok, codes}
 use Rattle.sv_ast.specs.declared.names.Named.{Named}
 use Rattle.sv_ast.specs.declared.script_tree.Arm.{Arm}
 use Rattle.sv_ast.specs.declared.script_tree.Decl.{Decl}
 use Rattle.sv_ast.specs.declared.script_tree.Expr.{Expr}
 use Rattle.sv_ast.specs.declared.script_tree.Spec.{Spec}
 use Rattle.sv_ast.specs.declared.script_tree.Stmt.{Stmt}
-use Rattle.sv_ast.specs.declared.script_tree.StmtKind.{StmtKind}
 use Rattle.sv_ast.specs.declared.script_tree.StmtKind.TheVariants as s
 use Rattle.sv_lex.specs.declared.lexeme.Lexeme.{Lexeme}
 use Rattle.sv_lex.specs.declared.lexeme.Lexeme.TheVariants as k

@@ -1,18 +1,23 @@
 -- The reader and the grammar agree.
-use Rattle.std.specs.Prelude.{◌≡◌, ℕ, List, Ok}
+use Rattle.std.specs.Prelude.{◌≡◌, ◌⊎◌, ℕ, List, Ok}
 use Rattle.sv_ast.specs.declared.script_tree.Stmt.{Stmt}
 use Rattle.sv_lex.specs.Reader.{Input, Parser}
+use Rattle.sv_expr.specs.Laws.{IsLimited}
 use Rattle.sv_expr.specs.Limits.{Limits}
-use Rattle.sv_script.specs.Grammar.{Component, Module}
-use Rattle.sv_script.specs.Script.{bodies, component, file_module}
+use Rattle.sv_script.specs.Script.{bodies}
 
 -- the block of an arrow where there is so much room
 abbrev pub arrow_block : Limits → ℕ → Parser (List Stmt)
 arrow_block limits room = (bodies limits room).exprs.block
 
 -- what is read is in the grammar
-abbrev pub SoundComponent : Type 0
-SoundComponent = (limits : Limits) (i o : Input) (found : List Stmt) → component limits i ≡ Ok (found, o) → Component limits (arrow_block limits) limits.nest i found o
+abbrev pub Sound : {L A : Type 0} → (L → Parser A) → (L → Input → A → Input → Type 0) → Type 0
+Sound {L} {A} read Is = (limits : L) (i o : Input) (x : A) → read limits i ≡ Ok (x, o) → Is limits i x o
 
-abbrev pub SoundModule : Type 0
-SoundModule = (limits : Limits) (i o : Input) (found : List Stmt) → file_module limits i ≡ Ok (found, o) → Module limits (arrow_block limits) limits.nest i found o
+-- what is in the grammar is read
+abbrev pub Complete : {L A : Type 0} → (L → Parser A) → (L → Input → A → Input → Type 0) → Type 0
+Complete {L} {A} read Is = (limits : L) (i o : Input) (x : A) → Is limits i x o → read limits i ≡ Ok (x, o)
+
+-- what is in the grammar within any limits is read, or refused for a limit
+abbrev pub Blamed : {L A : Type 0} → (L → Parser A) → (L → Input → A → Input → Type 0) → Type 0
+Blamed {L} {A} read Is = (limits wide : L) (i o : Input) (x : A) → Is wide i x o → (read limits i ≡ Ok (x, o)) ⊎ IsLimited (read limits i)

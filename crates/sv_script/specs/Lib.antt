@@ -6,5 +6,6 @@ pub mod Rules
 pub mod Script
 pub mod Below
 pub mod Grammar
+pub mod Closed
 pub mod Calls
 pub mod Laws

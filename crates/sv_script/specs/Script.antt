@@ -1,15 +1,17 @@
 -- The reader: whole files. Each rule is a line of the grammar.
-use Rattle.std.specs.Prelude.{ℕ, zero, suc, Bool, true, false, List, [], ◌∷◌, Option, Some, None, Ok, codes, if◌then◌else◌}
+use Rattle.std.specs.Prelude.{ℕ, zero, suc, Bool, true, false, List, [], Some, None, Ok, codes, if◌then◌else◌}
 use Rattle.std.specs.Str.{bytes_eq}
 use Rattle.sv_ast.specs.declared.names.Named.{Named}
 use Rattle.sv_ast.specs.declared.refusals.Kind.TheVariants.{Syntax, TooDeep}
+use Rattle.sv_ast.specs.declared.script_tree.Expr.{Expr}
 use Rattle.sv_ast.specs.declared.script_tree.Spec.{Spec}
 use Rattle.sv_ast.specs.declared.script_tree.Stmt.{Stmt}
 use Rattle.sv_ast.specs.declared.script_tree.StmtKind.TheVariants as s
 use Rattle.sv_lex.specs.declared.lexeme.Lexeme.{Lexeme}
 use Rattle.sv_lex.specs.declared.lexeme.Lexeme.TheVariants as k
 use Rattle.sv_lex.specs.Literals.{string}
-use Rattle.sv_lex.specs.Reader.{Input, Parser, ◌>>=◌, ◌>>◌, pure, refuse, peek, here, take_token, sees_one, spelling, ending, start, span_from, name}
+use Rattle.sv_lex.specs.Reader.{Parser, ◌>>=◌, ◌>>◌, pure, refuse, peek, here, take_token, sees_one, spelling, ending, start, span_from, name}
+use Rattle.sv_expr.specs.declared.form.Form.TheVariants.{Whole}
 use Rattle.sv_expr.specs.Limits.{Limits}
 use Rattle.sv_expr.specs.Lists.{listed}
 use Rattle.sv_expr.specs.Rules.{level}
@@ -131,3 +133,7 @@ component limits = upto (component_item limits limits.nest (bodies limits limits
 -- those of a module
 unfoldable pub file_module : Limits → Parser (List Stmt)
 file_module limits = upto (module_item limits limits.nest (bodies limits limits.nest)) k.End
+
+-- an expression, where so many constructs may enclose one another
+abbrev pub expression : Limits × ℕ → Parser Expr
+expression within = level within.0 within.1 (bodies within.0 within.1).exprs Whole

@@ -1,7 +1,9 @@
 // The public calls.
 ghost use Rattle.std.specs.Prelude.{◌≡◌, ◌≤◌, ◌<◌, ◌+◌, ◌-◌, length, take, drop};
-ghost use Rattle.sv_script.specs.Calls as spec;
-ghost use Rattle.sv_script.specs.Calls.{AnswersScript, AnswersPlace};
+ghost use Rattle.sv_expr.specs.Limits.{real};
+ghost use Rattle.sv_script.specs.Calls.{input_of, AnswersFile, AnswersPlace, RefusesAs};
+ghost use Rattle.sv_script.specs.Closed.{IsScript, IsModule};
+ghost use Rattle.sv_script.specs.Script as spec;
 
 use crate::knot::{component, expression, file_module};
 use std::alloc::Global;
@@ -19,7 +21,8 @@ fn script(
     from: u32,
 ) -> Result<Script, ParseError>
     requires { from + length text.now < TEXT_LIMIT }
-    ensures { AnswersScript (spec.component_in file text.now from names.old) result names.old names.new }
+    ensures tree { AnswersFile IsScript (input_of file text.now from names.old) result names.new }
+    ensures refusal { RefusesAs (spec.component real (input_of file text.now from names.old)) result }
 {
     let mut tokens = Tokens::new(alloc, names, file, text, from);
     let stmts = component(alloc, &mut tokens)?;
@@ -28,9 +31,10 @@ fn script(
     Ok(Script { stmts })
 }
 
-/// The tree of a component's script, which is the bytes from `from` to `to`. The names in it go to `names`, of which it takes
-/// those that are there. What is no script is refused at the token that can't go on, and then `names` stays as it was. On want
-/// of memory `names` may have grown.
+/// The tree of a component's script, which is the bytes from `from` to `to` (Svelte 4 docs, "Svelte components", "<script>";
+/// ECMA-262, sections 13 to 16). The names in it go to `names`, of which it takes those that are there. A text that has no
+/// tree is refused at the token that can't go on, and then `names` stays as it was. `Syntax` says that it has none within any
+/// limits, `TooDeep` and `NumberTooWide` that it came to a limit. On want of memory `names` may have grown.
 pub fn parse_script(
     alloc: Global,
     names: &mut Names,
@@ -42,13 +46,15 @@ pub fn parse_script(
     requires order { from ≤ to }
     requires range { to ≤ length bytes.now }
     requires short { length bytes.now < TEXT_LIMIT }
-    ensures { AnswersScript (spec.component_in file (drop from (take to bytes.now)) from names.old) result names.old names.new }
+    ensures tree { AnswersFile IsScript (input_of file (drop from (take to bytes.now)) from names.old) result names.new }
+    ensures refusal { RefusesAs (spec.component real (input_of file (drop from (take to bytes.now)) from names.old)) result }
 {
     let text = &bytes[..to as usize];
     script(alloc, names, file, &text[from as usize..], from)
 }
 
-/// The tree of a module's script, which is all of the bytes. Else as `parse_script`.
+/// The tree of a module's script, which is all of the bytes: imports, constants and functions, given to others by `export` or
+/// not. Else as `parse_script`.
 pub fn parse_module_script(
     alloc: Global,
     names: &mut Names,
@@ -56,7 +62,8 @@ pub fn parse_module_script(
     bytes: &[u8],
 ) -> Result<Script, ParseError>
     requires { length bytes.now < TEXT_LIMIT }
-    ensures { AnswersScript (spec.module_in file bytes.now names.old) result names.old names.new }
+    ensures tree { AnswersFile IsModule (input_of file bytes.now 0 names.old) result names.new }
+    ensures refusal { RefusesAs (spec.file_module real (input_of file bytes.now 0 names.old)) result }
 {
     let mut tokens = Tokens::new(alloc, names, file, bytes, 0);
     let stmts = file_module(alloc, &mut tokens)?;
@@ -66,7 +73,7 @@ pub fn parse_module_script(
 }
 
 /// The expression that begins at `from`, read as far as it goes, and the place behind it, where `open` constructs are open
-/// round it already. `names` and the refusals are as for `parse_script`.
+/// round it already (ECMA-262, sections 13.2 to 13.15). `names` and the refusals are as for `parse_script`.
 pub fn parse_expr_in(
     alloc: Global,
     names: &mut Names,
@@ -78,7 +85,8 @@ pub fn parse_expr_in(
     requires range { from ≤ length bytes.now }
     requires short { length bytes.now < TEXT_LIMIT }
     requires room { «open» ≤ 32 }
-    ensures { AnswersPlace (spec.expression_in (32 - «open») file (drop from bytes.now) from names.old) result names.old names.new }
+    ensures tree { AnswersPlace (32 - «open») (input_of file (drop from bytes.now) from names.old) result names.new }
+    ensures refusal { RefusesAs (spec.expression (real, 32 - «open») (input_of file (drop from bytes.now) from names.old)) result }
 {
     let mut tokens = Tokens::new(alloc, names, file, &bytes[from as usize..], from);
     let tree = expression(alloc, &mut tokens, NEST_LIMIT - open as usize)?;
@@ -103,7 +111,8 @@ pub fn parse_expr(
 ) -> Result<(Expr, u32), ParseError>
     requires range { from ≤ length bytes.now }
     requires short { length bytes.now < TEXT_LIMIT }
-    ensures { AnswersPlace (spec.expression_in 32 file (drop from bytes.now) from names.old) result names.old names.new }
+    ensures tree { AnswersPlace 32 (input_of file (drop from bytes.now) from names.old) result names.new }
+    ensures refusal { RefusesAs (spec.expression (real, 32) (input_of file (drop from bytes.now) from names.old)) result }
 {
     parse_expr_in(alloc, names, file, bytes, from, 0)
 }

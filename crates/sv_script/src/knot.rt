@@ -1,6 +1,5 @@
 // The knot of expressions and statements, and whole files.
 ghost use Rattle.sv_expr.specs.Limits.{real};
-ghost use Rattle.sv_expr.specs.Rules.{level};
 ghost use Rattle.sv_lex.specs.Reader.{Reads};
 ghost use Rattle.sv_script.specs.Places.{in_function};
 ghost use Rattle.sv_script.specs.Script as spec;
@@ -122,9 +121,13 @@ fn module_item(alloc: Global, tokens: &mut Tokens<'_>, room: usize) -> Result<St
     rules.module_item(tokens)
 }
 
-/// An expression, where so many constructs may still enclose one another.
+/// An expression, read as far as it goes, where so many constructs may still enclose one another: for a crate that reads
+/// other forms from the same tokens. It is read as the rules say, which give what the grammar gives (`expressions_are_read`).
+/// What is no expression is refused at the token that can't go on, a quotient that stands alone as a whole. `TooDeep` comes for
+/// a construct where there is no more room, and for a chain of more links than there may be, `NumberTooWide` for a numeral
+/// (ECMA-262, sections 13.2 to 13.15).
 pub fn expression(alloc: Global, tokens: &mut Tokens<'_>, room: usize) -> Result<Expr, ParseError>
-    ensures { Reads (level real room (bodies real room).exprs Form.Whole tokens.old) result tokens.new }
+    ensures { Reads (spec.expression (real, room) tokens.old) result tokens.new }
 {
     let exprs = Grammar {
         alloc,
@@ -136,7 +139,11 @@ pub fn expression(alloc: Global, tokens: &mut Tokens<'_>, room: usize) -> Result
     exprs.level(tokens, Form::Whole)
 }
 
-/// The statements of a component's script, up to the end of the text.
+/// The statements of a component's script, up to the end of the text: for a crate that reads other forms from the same
+/// tokens. They are read as the rules say, which give what the grammar gives (`scripts_are_read`). What is no statement is
+/// refused at the token that can't go on, an import's string as a whole where it may not be named. `TooDeep` and
+/// `NumberTooWide` come as for expressions, and `TooDeep` for an `if` of more branches than there may be (Svelte 4 docs,
+/// "Svelte components", "<script>"; ECMA-262, sections 14 to 16).
 #[tactic(auto, unfolding(crate::specs::Script::component))]
 pub fn component(alloc: Global, tokens: &mut Tokens<'_>) -> Result<Stmts, ParseError>
     ensures { Reads (spec.component real tokens.old) result tokens.new }

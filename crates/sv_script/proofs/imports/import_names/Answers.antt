@@ -1,6 +1,5 @@
-use Rattle.std.proofs.Common.{◌≡◌, ◌-◌, ◌+◌, [], ◌∷◌, rules, arith}
+use Rattle.std.proofs.Common.{rules, arith}
 use Rattle.std.proofs.lemmas.Grind.{common_steps}
-use Rattle.sv_expr.specs.Limits.{real}
 use Rattle.sv_script.specs.Script as spec
 use Rattle.sv_script.specs.Script.{import_names}
 use Rattle.sv_script.specs.Script.{bodies}

@@ -1,4 +1,4 @@
-use Rattle.std.proofs.Common.{◌≡◌, ap, arith, refl}
+use Rattle.std.proofs.Common.{◌≡◌, arith, refl}
 use Rattle.sv_expr.specs.Limits.{real}
 use Rattle.sv_script.specs.Script.{bodies}
 use Rattle.sv_script.proofs.ArrowBlocks.{arrow_is}
