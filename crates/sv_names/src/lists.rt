@@ -3,7 +3,7 @@ ghost use Rattle.std.specs.Prelude.{◌≡◌, [], map, filter, IfOk, OnOk};
 ghost use Rattle.sv_names.specs.Distinct.{firsts};
 ghost use Rattle.sv_names.specs.Uses as spec;
 
-use crate::distinct::Distinct;
+use crate::once::Distinct;
 use crate::uses::{Use, Walk, find, find_stmt};
 use std::alloc::Global;
 use sv_ast::{Expr, RefList, Stmt};

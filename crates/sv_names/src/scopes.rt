@@ -3,7 +3,7 @@ ghost use Rattle.std.specs.Prelude.{◌≡◌, [], ◌∷◌, map, option_map, O
 ghost use Rattle.sv_names.specs.Distinct.{with_names};
 ghost use Rattle.sv_names.specs.Uses.{named, imported, optional, together, body_parts, decl_parts, stmt_parts, stmt_kind_parts};
 
-use crate::distinct::Distinct;
+use crate::once::Distinct;
 use sv_ast::{Body, Decl, Import, Named, Ref, Spec, Stmt, StmtKind};
 use sv_base::NoMemory;
 use sv_list::Boxed;

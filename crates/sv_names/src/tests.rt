@@ -1,5 +1,5 @@
 // What stands free, is read and is assigned in each scope.
-use crate::{assigned_names, free_names, read_names};
+use crate::{Distinct, assigned_names, free_names, read_names};
 use std::alloc::Global;
 use std::test::Fail;
 use sv_ast::{
@@ -277,5 +277,17 @@ fn the_branches_of_an_if_are_read_in_turn(rt: HostRuntime) -> Result<(), Fail> {
     let s = stmt(StmtKind::If { arms, last });
     assert!(rt; is(&read_names(alloc, &s)?, &[A, C, B]));
     assert!(rt; is(&assigned_names(alloc, &s)?, &[B, X]));
+    Ok(())
+}
+
+#[test]
+fn a_set_of_names_has_what_was_put_in(rt: HostRuntime) -> Result<(), Fail> {
+    let mut names = Distinct::new(rt.alloc());
+    names.add(plain(A))?;
+    names.add(plain(A))?;
+    for (name, known) in [(A, true), (B, false)] {
+        assert_eq!(rt; names.has(plain(name)), known);
+        assert!(rt; !names.has(Ref::Store(Name(name))));
+    }
     Ok(())
 }

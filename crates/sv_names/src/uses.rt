@@ -2,7 +2,7 @@
 ghost use Rattle.std.specs.Prelude.{◌≡◌, [], ◌∷◌, ◌++◌, map, option_map, OnOk};
 ghost use Rattle.sv_names.specs.Uses as spec;
 
-use crate::distinct::Distinct;
+use crate::once::Distinct;
 use crate::scopes::{declare, declare_all, declare_body, declare_optional, declare_stmts};
 use sv_ast::{
     Arm, AssignOp, Body, Decl, Entry, Expr, ExprKind, Field, Link, Named, Ref, Stmt, StmtKind,

@@ -11,26 +11,8 @@ use Rattle.sv_visits.specs.Links.{is_in}
 use Rattle.sv_visits.proofs.Points.{in_head, in_tail, in_cons, in_left, in_right, in_parts}
 use Rattle.sv_order.specs.declared.reads.Reads.{Reads}
 use Rattle.sv_names.specs.Distinct.{same_ref, has}
+use Rattle.sv_names.proofs.Same.{same_ref-true, same_ref-self, has-append, has-head, has-cons}
 use Rattle.sv_order.specs.ReactiveOrder.{reads_of, sets_of, Before, needs_of, setters_of, before_of}
-
-pub same_ref-true : (a b : Ref) → same_ref a b ≡ true → a ≡ b
-same_ref-true (Plain a) (Plain b) e = let n : a.0 ≡ b.0 = eqb-true a.0 b.0 e in ap (λ z. Plain (record { 0 = z })) n
-same_ref-true (Plain a) (Store b) e = cc
-same_ref-true (Store a) (Plain b) e = cc
-same_ref-true (Store a) (Store b) e = let n : a.0 ≡ b.0 = eqb-true a.0 b.0 e in ap (λ z. Store (record { 0 = z })) n
-
-pub same_ref-self : (a : Ref) → same_ref a a ≡ true
-same_ref-self (Plain a) = eq-eqb a.0 a.0 refl
-same_ref-self (Store a) = eq-eqb a.0 a.0 refl
-
-pub has-append : (name : Ref) (xs ys : List Ref) → has name (xs ++ ys) ≡ (has name xs || has name ys)
-has-append name xs ys = list_any-append (same_ref name) xs ys
-
-pub has-head : (name x : Ref) (xs : List Ref) → name ≡ x → has name (x ∷ xs) ≡ true
-has-head name x xs e = or_left _ _ (subst (λ z. same_ref name z ≡ true) e (same_ref-self name))
-
-pub has-cons : (name x : Ref) (xs : List Ref) → has name (x ∷ xs) ≡ true → (name ≡ x) ⊎ (has name xs ≡ true)
-has-cons name x xs h = elim (or_cases (same_ref name x) (has name xs) h) [ inl e ↦ inl (same_ref-true name x e) | inr e ↦ inr e ]
 
 -- ---- filters
 

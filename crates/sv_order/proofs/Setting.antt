@@ -12,7 +12,8 @@ use Rattle.sv_visits.specs.Links.{is_in, links_of}
 use Rattle.sv_visits.proofs.Points.{in_head, in_tail, in_push_cases}
 use Rattle.sv_names.specs.Distinct.{same_ref, has}
 use Rattle.sv_order.specs.Points.{is_last, points_of, with_setter, AreBelow, NotesSetter, TellsOwn}
-use Rattle.sv_order.proofs.Naming.{same_ref-true, has-append, has-cons, has-head, filter-yes, filter-no}
+use Rattle.sv_names.proofs.Same.{same_ref-true, has-append, has-cons, has-head}
+use Rattle.sv_order.proofs.Naming.{filter-yes, filter-no}
 
 -- ---- the last of a list
 

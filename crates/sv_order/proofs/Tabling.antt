@@ -12,7 +12,7 @@ use Rattle.sv_order.specs.declared.reads.Reads.{Reads}
 use Rattle.sv_names.specs.Distinct.{same_ref, has}
 use Rattle.sv_order.specs.ReactiveOrder.{sets_of}
 use Rattle.sv_order.specs.Points.{Keeps, KnowsAll}
-use Rattle.sv_order.proofs.Naming.{has-append, has-cons, has-head}
+use Rattle.sv_names.proofs.Same.{has-append, has-cons, has-head}
 
 -- the table's test of names
 abbrev pub ref_eq : Ref → Ref → Bool

@@ -1,5 +1,5 @@
 // Names, each once.
-ghost use Rattle.std.specs.Prelude.{◌≡◌, ◌≤◌, [], length, take, IfOk, OnOk};
+ghost use Rattle.std.specs.Prelude.{◌≡◌, ◌≤◌, [], length, take, IfOk, OnOk, OnErr};
 ghost use Rattle.sv_names.specs.Distinct.{has, with_name};
 
 use indexmap::IndexSet;
@@ -10,7 +10,7 @@ use sv_base::NoMemory;
 
 /// Names, each once, in the order in which they were put in. A clause sees it as the list of them.
 #[derive(Drop)]
-pub(crate) struct Distinct {
+pub struct Distinct {
     names: IndexSet<Ref>,
 }
 
@@ -25,7 +25,7 @@ impl Model for Distinct {
 
 impl Distinct {
     /// No names.
-    pub(crate) fn new(alloc: Global) -> Distinct
+    pub fn new(alloc: Global) -> Distinct
         ensures { result ≡ [] }
     {
         Distinct {
@@ -41,15 +41,16 @@ impl Distinct {
     }
 
     /// Whether a name is there.
-    pub(crate) fn has(&self, name: Ref) -> bool
+    pub fn has(&self, name: Ref) -> bool
         ensures { result ≡ has name self.now }
     {
         self.names.contains(&name)
     }
 
-    /// Puts a name at the end, if it isn't there.
-    pub(crate) fn add(&mut self, name: Ref) -> Result<(), NoMemory>
-        ensures { OnOk result (self.new ≡ with_name self.old name) }
+    /// Puts a name at the end, if it isn't there. Names that find no memory stay as they were.
+    pub fn add(&mut self, name: Ref) -> Result<(), NoMemory>
+        ensures ok { OnOk result (self.new ≡ with_name self.old name) }
+        ensures err { OnErr result (self.new ≡ self.old) }
     {
         self.names.insert(name)?;
         Ok(())
