@@ -47,11 +47,11 @@ word_knows : (i o : Input) (x : Named) → word i ≡ Ok (x, o) → o.known ≡ 
 unfolding word
 word_knows i o x h = subst (Holds (Knows i)) h (word_of_knows _ i)
 
-store_knows : (i o : Input) (x : Named) → store_name i ≡ Ok (x, o) → o.known ≡ i.known
+pub store_knows : (i o : Input) (x : Named) → store_name i ≡ Ok (x, o) → o.known ≡ i.known
 unfolding store_name
 store_knows i o x h = subst (Holds (Knows i)) h (word_of_knows _ i)
 
-name_knows : (i o : Input) (x : Named) → name i ≡ Ok (x, o) → o.known ≡ i.known
+pub name_knows : (i o : Input) (x : Named) → name i ≡ Ok (x, o) → o.known ≡ i.known
 unfolding name word
 name_knows i o x h = subst (Holds (Knows i)) h (holds_if (Knows i) (sees_one k.Name i) _ _ (λ e. word_of_knows _ i) (λ e. tt))
 

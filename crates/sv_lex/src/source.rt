@@ -66,9 +66,10 @@ impl<'a> Source<'a> {
         self.text
     }
 
-    /// The place in the file.
+    /// The place in the file. It and each place behind it fit.
     pub fn at(&self) -> u32
-        ensures { result ≡ self.now.at }
+        ensures value { result ≡ self.now.at }
+        ensures fits { result + length self.now.text < TEXT_LIMIT }
     {
         self.at
     }

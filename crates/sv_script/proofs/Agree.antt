@@ -7,12 +7,12 @@ use Rattle.sv_lex.proofs.Ends.{ends_well}
 use Rattle.sv_lex.proofs.Steps.{Holds}
 use Rattle.sv_expr.specs.Limits.{Limits}
 use Rattle.sv_expr.proofs.End.{Limited, too_deep, too_wide}
-use Rattle.sv_script.specs.Closed.{IsClosed, IsScript, IsModule, IsExpression}
+use Rattle.sv_script.specs.Closed.{IsClosed, ScriptAt, ModuleAt}
 use Rattle.sv_script.specs.Grammar as g
-use Rattle.sv_script.specs.Laws.{arrow_block, Sound, Complete, Blamed}
+use Rattle.sv_script.specs.Laws.{arrow_block, read_expression, IsExpression, Sound, Complete, Blamed}
 use Rattle.sv_script.specs.Places.{in_function}
 use Rattle.sv_script.specs.Rules.{value}
-use Rattle.sv_script.specs.Script.{component, file_module, expression}
+use Rattle.sv_script.specs.Script.{component, file_module}
 use Rattle.sv_script.proofs.ArrowBlocks.{arrow_is}
 use Rattle.sv_script.proofs.EndScripts.{Blame, arrow_block_ends, expression_ends, component_ends, module_ends}
 use Rattle.sv_script.proofs.Sound.{below_holds, value_holds}
@@ -51,37 +51,37 @@ closed limits = record {
 
 -- ---- scripts
 
-pub script_sound : Sound component IsScript
+pub script_sound : Sound component ScriptAt
 script_sound limits i o x h = record {
   block = arrow_block limits;
   closed = closed limits;
   is = subst (Holds (g.Component limits (arrow_block limits) limits.nest i)) h (component_holds limits i);
 }
 
-pub script_complete : Complete component IsScript
+pub script_complete : Complete component ScriptAt
 script_complete limits i o x h = ends_well (component_ends limits limits h.block h.closed.only (λ e. ⊥) (λ d m. d ≡ m) (nothing limits) refl h.is)
 
-pub script_blamed : Blamed component IsScript
+pub script_blamed : Blamed component ScriptAt
 script_blamed limits wide i o x h = component_ends limits wide h.block h.closed.only Limited (λ d m. Unit {0}) (limit limits wide) tt h.is
 
 -- ---- modules
 
-pub module_sound : Sound file_module IsModule
+pub module_sound : Sound file_module ModuleAt
 module_sound limits i o x h = record {
   block = arrow_block limits;
   closed = closed limits;
   is = subst (Holds (g.Module limits (arrow_block limits) limits.nest i)) h (module_holds limits i);
 }
 
-pub module_complete : Complete file_module IsModule
+pub module_complete : Complete file_module ModuleAt
 module_complete limits i o x h = ends_well (module_ends limits limits h.block h.closed.only (λ e. ⊥) (λ d m. d ≡ m) (nothing limits) refl h.is)
 
-pub module_blamed : Blamed file_module IsModule
+pub module_blamed : Blamed file_module ModuleAt
 module_blamed limits wide i o x h = module_ends limits wide h.block h.closed.only Limited (λ d m. Unit {0}) (limit limits wide) tt h.is
 
 -- ---- expressions
 
-pub expression_sound : Sound expression IsExpression
+pub expression_sound : Sound read_expression IsExpression
 unfolding value
 expression_sound within i o x h = record {
   block = arrow_block within.0;
@@ -89,12 +89,12 @@ expression_sound within i o x h = record {
   is = subst (Holds (g.Inner within.0 (arrow_block within.0) (suc within.1) i)) h (value_holds within.0 false within.1 i);
 }
 
-pub expression_complete : Complete expression IsExpression
+pub expression_complete : Complete read_expression IsExpression
 unfolding value
 expression_complete within i o x h =
     ends_well (expression_ends within.0 within.0 h.block h.closed.only (λ e. ⊥) (λ d m. d ≡ m) (nothing within.0) within.1 within.1 refl h.is)
 
-pub expression_blamed : Blamed expression IsExpression
+pub expression_blamed : Blamed read_expression IsExpression
 unfolding value
 expression_blamed within wide i o x h =
     expression_ends within.0 wide.0 h.block h.closed.only Limited (λ d m. Unit {0}) (limit within.0 wide.0) within.1 wide.1 tt h.is

@@ -4,11 +4,11 @@ pub mod SoundSteps
 pub mod Sound
 pub mod SoundFiles
 pub mod Ways
-pub mod Keeps
 pub mod EndSteps
 pub mod EndStatements
 pub mod End
 pub mod EndFiles
 pub mod EndScripts
 pub mod Agree
-pub mod Trees
+pub mod Keeps
+pub mod Refusals

@@ -13,6 +13,7 @@ use Rattle.sv_lex.specs.Reader.{Input, Parser, next}
 use Rattle.sv_expr.specs.Limits.{Limits}
 use Rattle.sv_expr.proofs.Ways.{IsWay, step, token, name_moves, string_moves, params_move, inside_moves}
 use Rattle.sv_script.specs.declared.place.Place.{Place}
+use Rattle.sv_script.specs.Closed.{ScriptAt, ModuleAt, ExpressionAt}
 use Rattle.sv_script.specs.Grammar as g
 use Rattle.sv_script.specs.Places.{in_function}
 
@@ -155,8 +156,8 @@ module _ {Way Move : Input → Input → Type 0} (is : IsWay Way Move) where
     all : (top n : ℕ) → n < top → (i o : Input) (found : List Stmt) → block n i ≡ Ok (found, o) → Way i o
     all top n lt = blocks_way n
 
-    pub expression_way : {d : ℕ} {i o : Input} {x : Expr} → g.Inner limits block d i x o → Way i o
-    expression_way {d = d} x = is.weaker (outer limits block d (all d) x (omega arith))
+    inner_moves : {d : ℕ} {i o : Input} {x : Expr} → g.Inner limits block d i x o → Move i o
+    inner_moves {d = d} x = outer limits block d (all d) x (omega arith)
 
     module _ (d : ℕ) where
       pub component_item_moves : {i o : Input} {x : Stmt} → g.ComponentItem limits block d i x o → Move i o
@@ -174,8 +175,19 @@ module _ {Way Move : Input → Input → Type 0} (is : IsWay Way Move) where
       module_item_moves (g.given_const {i = i} h c) = is.on (token is i (λ e. cc)) (is.weaker (constants_move limits block (suc d) (all (suc d)) c (omega arith)))
       module_item_moves (g.given_function {i = i} h c) = is.on (token is i (λ e. cc)) (is.weaker (func_moves limits block (suc d) (all (suc d)) c (omega arith)))
 
-      pub component_way : {i o : Input} {xs : List Stmt} → g.Component limits block d i xs o → Way i o
+      component_way : {i o : Input} {xs : List Stmt} → g.Component limits block d i xs o → Way i o
       component_way h = upto_way (g.ComponentItem limits block d) k.End (λ i o x one. component_item_moves one) h
 
-      pub module_way : {i o : Input} {xs : List Stmt} → g.Module limits block d i xs o → Way i o
-      module_way h = upto_way (g.ModuleItem limits block d) k.End (λ i o x one. module_item_moves one) h
+      file_way : {i o : Input} {xs : List Stmt} → g.Module limits block d i xs o → Way i o
+      file_way h = upto_way (g.ModuleItem limits block d) k.End (λ i o x one. module_item_moves one) h
+
+  -- ---- the closed grammar
+
+  pub script_way : (limits : Limits) {i o : Input} {xs : List Stmt} → ScriptAt limits i xs o → Way i o
+  script_way limits h = component_way limits h.block h.closed.only limits.nest h.is
+
+  pub module_way : (limits : Limits) {i o : Input} {xs : List Stmt} → ModuleAt limits i xs o → Way i o
+  module_way limits h = file_way limits h.block h.closed.only limits.nest h.is
+
+  pub expression_moves : (limits : Limits) (room : ℕ) {i o : Input} {x : Expr} → ExpressionAt limits room i x o → Move i o
+  expression_moves limits room h = inner_moves limits h.block h.closed.only h.is

@@ -8,7 +8,8 @@ use Rattle.sv_ast.specs.declared.script_tree.Expr.{Expr}
 use Rattle.sv_ast.specs.declared.script_tree.Stmt.{Stmt}
 use Rattle.sv_lex.specs.Reader.{Input, Outcome, Fails}
 use Rattle.sv_expr.specs.Limits.{Limits, real}
-use Rattle.sv_script.specs.Closed.{IsExpression}
+use Rattle.sv_script.specs.Closed.{ExpressionAt}
+use Rattle.sv_script.specs.Laws.{IsExpression}
 
 -- a text that begins at a place of a file, with the names that are known
 abbrev pub input_of : ℕ → List ℕ → ℕ → List (List ℕ) → Input
@@ -18,7 +19,7 @@ input_of file text from names = record { text = text; at = from; file = file; kn
 abbrev pub HasTree : {A : Type 0} → (Input → A → Input → Type 0) → Input → Type 0
 HasTree {A} Is i = (x : A) × (o : Input) × Is i x o
 
--- no answer: where memory is wanted names may have been added behind those that were there. A refusal leaves them, and there is no tree within the limits; by one for the grammar's sake, within no limits
+-- no answer: where memory is wanted names may have been added behind the old ones. A refusal leaves those, and there is no tree within the limits; where it is `Syntax` there is none within any
 abbrev pub Refuses : {L A : Type 0} → (L → Input → A → Input → Type 0) → L → Input → ParseError → List (List ℕ) → List (List ℕ) → Type 0
 Refuses {L} Is limits i errors.NoMemory old new = take (length old) new ≡ old
 Refuses {L} Is limits i (errors.Refused r) old new =
@@ -31,7 +32,7 @@ AnswersFile Is i (Err e) new = Refuses Is real i e i.known new
 
 -- an expression where so many constructs may enclose one another, and the place behind it
 abbrev pub AnswersPlace : ℕ → Input → Result (Expr × ℕ) ParseError → List (List ℕ) → Type 0
-AnswersPlace room i (Ok a) new = (o : Input) × IsExpression (real, room) i a.0 o × (a.1 ≡ o.at) × (new ≡ i.known ++ o.added)
+AnswersPlace room i (Ok a) new = (o : Input) × ExpressionAt real room i a.0 o × (a.1 ≡ o.at) × (new ≡ i.known ++ o.added)
 AnswersPlace room i (Err e) new = Refuses IsExpression (real, room) i e i.known new
 
 -- a refusal is that of a reader

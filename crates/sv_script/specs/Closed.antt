@@ -21,13 +21,13 @@ pub record InGrammar {A : Type 0} (limits : Limits) (Rule : (ℕ → Parser (Lis
   pub is : Rule block i x o
 
 -- the text from `i` to `o` is this script of a component
-abbrev pub IsScript : Limits → Input → List Stmt → Input → Type 0
-IsScript limits = InGrammar limits (λ block. Component limits block limits.nest)
+abbrev pub ScriptAt : Limits → Input → List Stmt → Input → Type 0
+ScriptAt limits = InGrammar limits (λ block. Component limits block limits.nest)
 
 -- this module
-abbrev pub IsModule : Limits → Input → List Stmt → Input → Type 0
-IsModule limits = InGrammar limits (λ block. Module limits block limits.nest)
+abbrev pub ModuleAt : Limits → Input → List Stmt → Input → Type 0
+ModuleAt limits = InGrammar limits (λ block. Module limits block limits.nest)
 
 -- this expression, where so many constructs may enclose one another
-abbrev pub IsExpression : Limits × ℕ → Input → Expr → Input → Type 0
-IsExpression within = InGrammar within.0 (λ block. Inside within.0 block (suc within.1) Whole)
+abbrev pub ExpressionAt : Limits → ℕ → Input → Expr → Input → Type 0
+ExpressionAt limits room = InGrammar limits (λ block. Inside limits block (suc room) Whole)

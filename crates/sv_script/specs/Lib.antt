@@ -7,5 +7,5 @@ pub mod Script
 pub mod Below
 pub mod Grammar
 pub mod Closed
-pub mod Calls
 pub mod Laws
+pub mod Calls

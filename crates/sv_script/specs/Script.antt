@@ -135,5 +135,5 @@ unfoldable pub file_module : Limits → Parser (List Stmt)
 file_module limits = upto (module_item limits limits.nest (bodies limits limits.nest)) k.End
 
 -- an expression, where so many constructs may enclose one another
-abbrev pub expression : Limits × ℕ → Parser Expr
-expression within = level within.0 within.1 (bodies within.0 within.1).exprs Whole
+abbrev pub expression : Limits → ℕ → Parser Expr
+expression limits room = level limits room (bodies limits room).exprs Whole

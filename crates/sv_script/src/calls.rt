@@ -2,7 +2,7 @@
 ghost use Rattle.std.specs.Prelude.{◌≡◌, ◌≤◌, ◌<◌, ◌+◌, ◌-◌, length, take, drop};
 ghost use Rattle.sv_expr.specs.Limits.{real};
 ghost use Rattle.sv_script.specs.Calls.{input_of, AnswersFile, AnswersPlace, RefusesAs};
-ghost use Rattle.sv_script.specs.Closed.{IsScript, IsModule};
+ghost use Rattle.sv_script.specs.Closed.{ScriptAt, ModuleAt};
 ghost use Rattle.sv_script.specs.Script as spec;
 
 use crate::knot::{component, expression, file_module};
@@ -21,7 +21,7 @@ fn script(
     from: u32,
 ) -> Result<Script, ParseError>
     requires { from + length text.now < TEXT_LIMIT }
-    ensures tree { AnswersFile IsScript (input_of file text.now from names.old) result names.new }
+    ensures tree { AnswersFile ScriptAt (input_of file text.now from names.old) result names.new }
     ensures refusal { RefusesAs (spec.component real (input_of file text.now from names.old)) result }
 {
     let mut tokens = Tokens::new(alloc, names, file, text, from);
@@ -46,7 +46,7 @@ pub fn parse_script(
     requires order { from ≤ to }
     requires range { to ≤ length bytes.now }
     requires short { length bytes.now < TEXT_LIMIT }
-    ensures tree { AnswersFile IsScript (input_of file (drop from (take to bytes.now)) from names.old) result names.new }
+    ensures tree { AnswersFile ScriptAt (input_of file (drop from (take to bytes.now)) from names.old) result names.new }
     ensures refusal { RefusesAs (spec.component real (input_of file (drop from (take to bytes.now)) from names.old)) result }
 {
     let text = &bytes[..to as usize];
@@ -62,7 +62,7 @@ pub fn parse_module_script(
     bytes: &[u8],
 ) -> Result<Script, ParseError>
     requires { length bytes.now < TEXT_LIMIT }
-    ensures tree { AnswersFile IsModule (input_of file bytes.now 0 names.old) result names.new }
+    ensures tree { AnswersFile ModuleAt (input_of file bytes.now 0 names.old) result names.new }
     ensures refusal { RefusesAs (spec.file_module real (input_of file bytes.now 0 names.old)) result }
 {
     let mut tokens = Tokens::new(alloc, names, file, bytes, 0);
@@ -86,7 +86,7 @@ pub fn parse_expr_in(
     requires short { length bytes.now < TEXT_LIMIT }
     requires room { «open» ≤ 32 }
     ensures tree { AnswersPlace (32 - «open») (input_of file (drop from bytes.now) from names.old) result names.new }
-    ensures refusal { RefusesAs (spec.expression (real, 32 - «open») (input_of file (drop from bytes.now) from names.old)) result }
+    ensures refusal { RefusesAs (spec.expression real (32 - «open») (input_of file (drop from bytes.now) from names.old)) result }
 {
     let mut tokens = Tokens::new(alloc, names, file, &bytes[from as usize..], from);
     let tree = expression(alloc, &mut tokens, NEST_LIMIT - open as usize)?;
@@ -112,7 +112,7 @@ pub fn parse_expr(
     requires range { from ≤ length bytes.now }
     requires short { length bytes.now < TEXT_LIMIT }
     ensures tree { AnswersPlace 32 (input_of file (drop from bytes.now) from names.old) result names.new }
-    ensures refusal { RefusesAs (spec.expression (real, 32) (input_of file (drop from bytes.now) from names.old)) result }
+    ensures refusal { RefusesAs (spec.expression real 32 (input_of file (drop from bytes.now) from names.old)) result }
 {
     parse_expr_in(alloc, names, file, bytes, from, 0)
 }

@@ -127,7 +127,7 @@ fn module_item(alloc: Global, tokens: &mut Tokens<'_>, room: usize) -> Result<St
 /// a construct where there is no more room, and for a chain of more links than there may be, `NumberTooWide` for a numeral
 /// (ECMA-262, sections 13.2 to 13.15).
 pub fn expression(alloc: Global, tokens: &mut Tokens<'_>, room: usize) -> Result<Expr, ParseError>
-    ensures { Reads (spec.expression (real, room) tokens.old) result tokens.new }
+    ensures { Reads (spec.expression real room tokens.old) result tokens.new }
 {
     let exprs = Grammar {
         alloc,

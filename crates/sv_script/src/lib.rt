@@ -21,4 +21,3 @@ mod words;
 pub use calls::{parse_expr, parse_expr_in, parse_module_script, parse_script};
 pub use knot::{component, expression};
 pub use laws::{arrow_blocks_are_closed, expressions_are_read, modules_are_read, scripts_are_read};
-pub use words::word_as;

@@ -3,24 +3,29 @@ use Rattle.sv_base.specs.Names.{IsTable}
 use Rattle.sv_lex.specs.Reader.{Input, Fails}
 use Rattle.sv_expr.specs.Limits.{real}
 use Rattle.sv_script.specs.Calls.{input_of, AnswersFile}
-use Rattle.sv_script.specs.Closed.{IsModule}
+use Rattle.sv_script.specs.Closed.{ModuleAt}
 use Rattle.sv_script.specs.Script as spec
 use Rattle.sv_script.proofs.Agree.{module_sound, module_complete, module_blamed}
-use Rattle.sv_script.proofs.Trees.{refuses, given_on, module_knows}
+use Rattle.sv_script.proofs.Keeps.{module_keeps}
+use Rattle.sv_script.proofs.Refusals.{refuses, given_on}
 use Rattle.sv_script.proofs.calls.parse_module_script.Goals as goal
 
 pub returns-in_err-stmts-clause-tree : goal.returns-in_err-stmts-clause-tree
 returns-in_err-stmts-clause-tree c =
     let i : Input = input_of c.args.file c.args.bytes.now 0 c.args.names.now in
-    given_on (λ r. AnswersFile IsModule i r c.args.names.now) c.from_residual.result c.in_err-stmts.field-0.0 c.from_residual.ensures.0 c.from_residual.ensures.1
-    (refuses spec.file_module IsModule module_complete module_blamed real i c.in_err-stmts.field-0.0 (subst (λ i. Fails (spec.file_module real i) c.in_err-stmts.field-0.0) c.new-tokens.ensures c.in_err-stmts.ensures))
+    given_on (λ r. AnswersFile ModuleAt i r c.args.names.now) c.from_residual.result c.in_err-stmts.field-0.0 c.from_residual.ensures.0 c.from_residual.ensures.1
+    (refuses spec.file_module ModuleAt module_complete module_blamed real i c.in_err-stmts.field-0.0
+    (subst (λ i. Fails (spec.file_module real i) c.in_err-stmts.field-0.0) c.new-tokens.ensures c.in_err-stmts.ensures))
 
 pub append-requires : goal.append-requires
 append-requires c =
-    let is = module_sound real c.new-tokens.result c.file_module.new.tokens c.in_ok-stmts.stmts c.in_ok-stmts.ensures in
-    subst (λ known. IsTable (known ++ c.into_added-added.result)) (module_knows is ∙ ap (λ (i : Input). i.known) c.new-tokens.ensures) c.into_added-added.ensures.table
+    let kept = module_keeps real c.new-tokens.result c.file_module.new.tokens c.in_ok-stmts.stmts c.in_ok-stmts.ensures in
+    subst (λ known. IsTable (known ++ c.into_added-added.result)) (kept ∙ ap (λ (i : Input). i.known) c.new-tokens.ensures) c.into_added-added.ensures.table
 
 pub returns-clause-tree : goal.returns-clause-tree
 returns-clause-tree c =
-    let is = module_sound real c.new-tokens.result c.file_module.new.tokens c.in_ok-stmts.stmts c.in_ok-stmts.ensures in
-    (c.file_module.new.tokens, subst (λ i. IsModule real i c.in_ok-stmts.stmts c.file_module.new.tokens) c.new-tokens.ensures is, c.in_ok-append.ensures.ok ∙ ap (λ added. c.args.names.now ++ added) c.into_added-added.ensures.value)
+    let is = module_sound real c.new-tokens.result c.file_module.new.tokens c.in_ok-stmts.stmts c.in_ok-stmts.ensures in (
+      c.file_module.new.tokens,
+      subst (λ i. ModuleAt real i c.in_ok-stmts.stmts c.file_module.new.tokens) c.new-tokens.ensures is,
+      c.in_ok-append.ensures.ok ∙ ap (λ added. c.args.names.now ++ added) c.into_added-added.ensures.value,
+    )
