@@ -1,0 +1,4 @@
+pub mod Cells
+pub mod Earliest
+pub mod Mistakes
+pub mod Places

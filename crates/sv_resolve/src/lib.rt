@@ -1,0 +1,16 @@
+//! Where the names of a component or a module are declared, and the mistakes that its scopes show.
+#![tactic(auto)]
+
+mod calls;
+mod cells;
+mod earliest;
+mod mistakes;
+mod places;
+mod refusals;
+mod table;
+#[cfg(test)]
+mod tests;
+
+pub use calls::{first_mistake, resolve, resolve_module};
+pub use cells::Scopes;
+pub use refusals::{CheckError, CheckKind, CheckRefusal};

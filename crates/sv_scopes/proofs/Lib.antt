@@ -1,0 +1,5 @@
+pub mod Hiding
+pub mod Leaving
+pub mod Loops
+pub mod Scoping
+pub mod Tags

@@ -1,0 +1,5 @@
+pub mod Attributes
+pub mod Files
+pub mod Markup
+pub mod Parts
+pub mod Script

@@ -1,0 +1,16 @@
+//! The scopes of components and modules: what each declares, and which names are used in it.
+#![tactic(auto)]
+
+mod attributes;
+mod declare;
+mod file;
+mod found;
+mod markup;
+mod script;
+#[cfg(test)]
+mod tests;
+mod top;
+mod words;
+
+pub use file::{scopes_of_component, scopes_of_module};
+pub use words::{Binding, Declared, FileScopes, Form, Role, Scope, Use, VIEW};
