@@ -1,0 +1,13 @@
+pub mod Bytes
+pub mod Names
+pub mod Finds
+pub mod Characters
+pub mod Lengths
+pub mod Ways
+pub mod SoundValues
+pub mod SoundTags
+pub mod SoundRaw
+pub mod EndValues
+pub mod EndTags
+pub mod EndRaw
+pub mod Agree

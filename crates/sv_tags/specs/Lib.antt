@@ -1,0 +1,11 @@
+pub mod Attributes
+pub mod Classes
+pub mod Directives
+pub mod Grammar
+pub mod Holes
+pub mod Laws
+pub mod Openings
+pub mod Raw
+pub mod Taken
+pub mod Texts
+pub mod Values
