@@ -1,0 +1,11 @@
+pub mod Fronts
+pub mod SoundLeaves
+pub mod SoundNodes
+pub mod Found
+pub mod SoundTop
+pub mod Ways
+pub mod EndLeaves
+pub mod EndNodes
+pub mod EndTop
+pub mod Agree
+pub mod Refusals

@@ -1,0 +1,4 @@
+use Rattle.sv_markup.proofs.knot.+inside.Given as goal
+
+abbrev pub decreases-inside : goal.decreases-inside
+decreases-inside l = l.room

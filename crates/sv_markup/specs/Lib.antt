@@ -1,0 +1,9 @@
+pub mod Pieces
+pub mod Ends
+pub mod Void
+pub mod Nodes
+pub mod Rules
+pub mod Files
+pub mod Below
+pub mod Grammar
+pub mod Calls

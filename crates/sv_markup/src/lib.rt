@@ -1,0 +1,24 @@
+//! Markup: reads nodes and whole files, above the rules of tags and scripts, and the public calls.
+#![tactic(auto)]
+
+mod blocks;
+mod calls;
+mod ends;
+mod file;
+mod heads;
+mod knot;
+mod laws;
+mod leaves;
+mod pieces;
+#[cfg(test)]
+mod refusal_tests;
+mod rules;
+#[cfg(test)]
+mod sources;
+mod tags;
+#[cfg(test)]
+mod tests;
+mod void;
+
+pub use calls::{parse_component, parse_module};
+pub use laws::components_are_read;
