@@ -6,6 +6,7 @@ use std::process::Abort;
 use std::test::Fail;
 use sv_ast::{Attrs, Component, Markup, Nodes, Ref, RefList, Script};
 use sv_base::{Names, NoMemory, Span, Text};
+use sv_markup::parse_component;
 use sv_scopes::{VIEW, scopes_of_component};
 use sv_script::parse_script;
 
@@ -153,6 +154,75 @@ const SEVERAL: [(&str, Mistake); 5] = [
         Some((UnknownName, 27, 28)),
     ),
 ];
+
+// A whole component with the names in it.
+fn read(alloc: Global, text: &str) -> Result<(Names, Component), Fail> {
+    let bytes = text.as_bytes();
+    if bytes.len() >= 100_000 {
+        return Err("too long".into());
+    }
+    let mut names = Names::empty(alloc);
+    let tree = parse_component(alloc, &mut names, 0, bytes)?;
+    Ok((names, tree))
+}
+
+// Statements that are ordered by what they read, in a component that shows what they assign.
+const ORDERED: &str = "<script>
+  let n = 1
+  $: b = a + 1
+  $: a = n * 2
+  $: console.log(a, b)
+</script>
+<button id=\"b\" on:click={() => n += 1}>{b}</button>
+";
+
+// Components, and the first mistake in their names.
+const COMPONENTS: [(&str, Mistake); 10] = [
+    (ORDERED, None),
+    ("<script>\n  $: x = y;\n  $: y = x;\n</script>\n", None),
+    (
+        "<script>\n  let count = 0\n  function twice() { return count * 2 }\n</script>\n<p>{twice()}</p>\n",
+        None,
+    ),
+    (
+        "<script>\n  import C from './C.svelte'\n</script>\n<C m={1}/>\n",
+        None,
+    ),
+    ("<p>{x}</p>", Some((UnknownName, 4, 5))),
+    ("<C/>", Some((UnknownName, 1, 2))),
+    (
+        "<script>let l</script>{#each l as it (it.id)}{it}{/each}",
+        None,
+    ),
+    (
+        "<script>let l</script>{#each l as it}{/each}{it}",
+        Some((UnknownName, 45, 47)),
+    ),
+    (
+        "<script>import C from './C.svelte'</script><C let:x>{x}</C>",
+        None,
+    ),
+    (
+        "<script>import C from './C.svelte'</script><C let:x/>{x}",
+        Some((UnknownName, 54, 55)),
+    ),
+];
+
+#[test]
+fn whole_components_are_resolved(rt: HostRuntime) -> Result<(), Fail> {
+    for (text, first) in COMPONENTS {
+        let (names, tree) = read(rt.alloc(), text)?;
+        let refused = resolve(rt.alloc(), &names, &tree).err();
+        let wanted = expected(first).map(CheckError::Refused);
+        assert_eq!(rt; refused, wanted, "{text}");
+    }
+    let (names, tree) = read(rt.alloc(), ORDERED)?;
+    let scopes = resolve(rt.alloc(), &names, &tree)?;
+    let mut shown = String::new(rt.alloc());
+    push_names(&mut shown, &names, &scopes.cells)?;
+    assert_eq!(rt; shown.as_str(), "nba");
+    Ok(())
+}
 
 fn all_are(rt: &impl Abort, alloc: Global, scripts: &[(&str, Mistake)]) -> Result<(), Fail> {
     for (text, first) in scripts {
