@@ -1,22 +1,66 @@
--- What is asked of a call.
-use Rattle.std.proofs.Common.{◌≡◌, Bool, true, List, map, sym, ap, ◌∙◌}
-use Rattle.std.specs.Prelude.{◌&&◌}
+-- What is asked of a call, and of a `for`.
+use Rattle.std.proofs.Common.{◌≡◌, List, [], Option, None, Some, map, option_map, sym, ap, ◌∙◌}
+use Rattle.std.specs.Prelude.{Result}
+use Rattle.std.specs.Option.{option_to_list}
+use Rattle.sv_base.specs.declared.span.Span.{Span}
 use Rattle.sv_ast.specs.declared.names.Ref.{Ref}
 use Rattle.sv_ast.specs.declared.script_tree.Expr.{Expr}
 use Rattle.sv_ast.specs.declared.script_tree.ExprKind
 use Rattle.sv_ast.specs.declared.script_tree.ExprKind.{ExprKind as AnyExpr, ExprKind-F, fold-roll-ExprKind}
+use Rattle.sv_ast.specs.declared.script_tree.Stmt.{Stmt}
+use Rattle.sv_ast.specs.declared.script_tree.StmtKind
+use Rattle.sv_ast.specs.declared.script_tree.StmtKind.{StmtKind as AnyStmt, StmtKind-F, fold-roll-StmtKind}
 use Rattle.sv_purity.specs.Calls.{Table}
-use Rattle.sv_purity.specs.Pure.{Test, Asked, Part, call, asked, kind_asked, body, entry, expr_kind, field, stmt_kind, arm, decl, expr, link, stmt}
+use Rattle.sv_purity.specs.First.{outcome}
+use Rattle.sv_purity.specs.Scopes.{declared_by}
+use Rattle.sv_purity.proofs.First.{then, outcomes}
+use Rattle.sv_purity.specs.Pure.{Places, Placed, Asked, Part, call, unless, may_call, each, both, given, without, for_head, together, asked, kind_asked, stmt_part, stmt_kind_part, body, entry, expr_kind, field, stmt_kind, arm, decl, expr, link, stmt}
 
--- what is called is pure, so the call is pure if it may be made
-pub call_is : (kind : AnyExpr) (of first second : Expr) (args given : List Expr) (b r : Bool) (table : Table) (pure : List Ref) → kind ≡ ExprKind.Call of args
-    → first ≡ of → b ≡ (asked first).test table pure → b ≡ true
-    → second ≡ of → given ≡ args → r ≡ call (asked second).form (map asked given) table pure
-    → r ≡ (kind_asked kind).test table pure
+call_places : (kind : AnyExpr) (of : Expr) (args : List Expr) (at : Span) (table : Table) (pure : List Ref) → kind ≡ ExprKind.Call of args
+    → (kind_asked kind at).places table pure ≡ call at (asked of) (map asked args) table pure
 unfolding ExprKind.roll-ExprKind denote.Hole.Carrier.roll
-call_is kind of first second args given b r table pure k f e t s g c =
-    let whole : (kind_asked kind).test table pure ≡ ((asked of).test table pure && call (asked of).form (map asked args) table pure) =
-    ap (λ x. (kind_asked x).test table pure) k
-    ∙ ap (λ a. a.test table pure) (fold-roll-ExprKind Part Test Asked Test Part Test Part Asked Test Part body entry expr_kind field stmt_kind arm decl expr link stmt (ExprKind-F.Call of args)) in
-    c ∙ ap (λ x. call (asked x).form (map asked given) table pure) s ∙ ap (λ x. call (asked of).form (map asked x) table pure) g
-    ∙ ap (λ x. x && call (asked of).form (map asked args) table pure) (sym t ∙ e ∙ ap (λ x. (asked x).test table pure) f) ∙ sym whole
+call_places kind of args at table pure k =
+    ap (λ x. (kind_asked x at).places table pure) k
+    ∙ ap (λ f. (f at).places table pure) (fold-roll-ExprKind Part Places Placed Places Part Places Part Asked Places Part body entry expr_kind field stmt_kind arm decl expr link stmt (ExprKind-F.Call of args))
+
+-- a call itself is looked at, what is called, and then the arguments
+pub call_on : (kind : AnyExpr) (of of1 of2 : Expr) (args args1 args2 : List Expr) (at : Span) (table : Table) (pure : List Ref) (r1 r2 r3 : Result (Unit {0}) Span) → kind ≡ ExprKind.Call of args
+    → of1 ≡ of → args1 ≡ args → of2 ≡ of → args2 ≡ args
+    → r1 ≡ outcome (unless (may_call (asked of1).form (map (λ arg. arg.form) (map asked args1))) at table pure)
+    → r2 ≡ outcome ((asked of2).places table pure)
+    → r3 ≡ outcome (each (map (λ arg. arg.places) (map asked args2)) table pure)
+    → then r1 (then r2 r3) ≡ outcome ((kind_asked kind at).places table pure)
+call_on kind of of1 of2 args args1 args2 at table pure r1 r2 r3 k o1 a1 o2 a2 e1 e2 e3 =
+    let own = λ (x : Expr) (xs : List Expr). unless (may_call (asked x).form (map (λ arg. arg.form) (map asked xs))) at table pure in
+    let given = λ (xs : List Expr). each (map (λ arg. arg.places) (map asked xs)) table pure in
+    outcomes (own of args) _ (e1 ∙ ap (λ x. outcome (own x args1)) o1 ∙ ap (λ xs. outcome (own of xs)) a1)
+    (outcomes ((asked of).places table pure) (given args) (e2 ∙ ap (λ x. outcome ((asked x).places table pure)) o2) (e3 ∙ ap (λ xs. outcome (given xs)) a2))
+    ∙ sym (ap outcome (call_places kind of args at table pure k))
+
+for_is : (first : Option Stmt) (test next : Option Expr) (turn : Stmt) (table : Table) (pure : List Ref) → (stmt_kind_part (StmtKind.For first test next turn)).places table pure
+    ≡ for_head (together (map stmt_part (option_to_list first))) (given (option_map asked test)) (given (option_map asked next)) (stmt_part turn).places table pure
+unfolding StmtKind.roll-StmtKind denote.Hole.Carrier.roll
+for_is None None None turn table pure = ap (λ p. p.places table pure) (fold-roll-StmtKind Part Places Placed Places Part Places Part Asked Places Part body entry expr_kind field stmt_kind arm decl expr link stmt (StmtKind-F.For None None None turn))
+for_is None None (Some n) turn table pure = ap (λ p. p.places table pure) (fold-roll-StmtKind Part Places Placed Places Part Places Part Asked Places Part body entry expr_kind field stmt_kind arm decl expr link stmt (StmtKind-F.For None None (Some n) turn))
+for_is None (Some e) None turn table pure = ap (λ p. p.places table pure) (fold-roll-StmtKind Part Places Placed Places Part Places Part Asked Places Part body entry expr_kind field stmt_kind arm decl expr link stmt (StmtKind-F.For None (Some e) None turn))
+for_is None (Some e) (Some n) turn table pure = ap (λ p. p.places table pure) (fold-roll-StmtKind Part Places Placed Places Part Places Part Asked Places Part body entry expr_kind field stmt_kind arm decl expr link stmt (StmtKind-F.For None (Some e) (Some n) turn))
+for_is (Some f) None None turn table pure = ap (λ p. p.places table pure) (fold-roll-StmtKind Part Places Placed Places Part Places Part Asked Places Part body entry expr_kind field stmt_kind arm decl expr link stmt (StmtKind-F.For (Some f) None None turn))
+for_is (Some f) None (Some n) turn table pure = ap (λ p. p.places table pure) (fold-roll-StmtKind Part Places Placed Places Part Places Part Asked Places Part body entry expr_kind field stmt_kind arm decl expr link stmt (StmtKind-F.For (Some f) None (Some n) turn))
+for_is (Some f) (Some e) None turn table pure = ap (λ p. p.places table pure) (fold-roll-StmtKind Part Places Placed Places Part Places Part Asked Places Part body entry expr_kind field stmt_kind arm decl expr link stmt (StmtKind-F.For (Some f) (Some e) None turn))
+for_is (Some f) (Some e) (Some n) turn table pure = ap (λ p. p.places table pure) (fold-roll-StmtKind Part Places Placed Places Part Places Part Asked Places Part body entry expr_kind field stmt_kind arm decl expr link stmt (StmtKind-F.For (Some f) (Some e) (Some n) turn))
+
+-- the head of a `for` is looked at in its scope, and then the body
+pub for_on : (kind : AnyStmt) (first : Option Stmt) (test next : Option Expr) (turn turn1 : Stmt) (head : List Stmt) (table : Table) (outer inner : List Ref) (r1 r2 r3 r4 : Result (Unit {0}) Span) → kind ≡ StmtKind.For first test next turn
+    → turn1 ≡ turn → head ≡ option_to_list first → inner ≡ without (declared_by [] head) outer
+    → r1 ≡ outcome ((together (map stmt_part head)).places table inner)
+    → r2 ≡ outcome (given (option_map asked test) table inner)
+    → r3 ≡ outcome (given (option_map asked next) table inner)
+    → r4 ≡ outcome ((stmt_part turn1).places table inner)
+    → then r1 (then r2 (then r3 r4)) ≡ outcome ((stmt_kind_part kind).places table outer)
+for_on kind first test next turn turn1 head table outer inner r1 r2 r3 r4 k t h i e1 e2 e3 e4 =
+    let whole = λ (stmts : List Stmt) (x : Stmt). for_head (together (map stmt_part stmts)) (given (option_map asked test)) (given (option_map asked next)) (stmt_part x).places table outer in
+    let rest = λ (stmts : List Stmt) (x : Stmt). both (together (map stmt_part stmts)).places (both (given (option_map asked test)) (both (given (option_map asked next)) (stmt_part x).places)) in
+    outcomes ((together (map stmt_part head)).places table inner) _ e1
+    (outcomes (given (option_map asked test) table inner) _ e2 (outcomes (given (option_map asked next) table inner) ((stmt_part turn1).places table inner) e3 e4))
+    ∙ ap (λ z. outcome (rest head turn1 table z)) i ∙ ap (λ stmts. outcome (whole stmts turn1)) h ∙ ap (λ x. outcome (whole (option_to_list first) x)) t
+    ∙ sym (ap outcome (ap (λ x. (stmt_kind_part x).places table outer) k ∙ for_is first test next turn table outer))

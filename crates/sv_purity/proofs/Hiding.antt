@@ -1,5 +1,5 @@
 -- Pure functions that scopes hide.
-use Rattle.std.proofs.Common.{◌≡◌, Bool, true, List, ap, sym}
+use Rattle.std.proofs.Common.{◌≡◌, List, ap, sym}
 use Rattle.std.specs.Prelude.{not, ◌&&◌}
 use Rattle.std.proofs.lemmas.Map.Views.{any-filter_same}
 use Rattle.sv_ast.specs.declared.names.Ref.{Ref}

@@ -1,2 +1,3 @@
 pub mod Calling
+pub mod First
 pub mod Hiding

@@ -1,9 +1,11 @@
 -- Expressions that may stand in markup: their evaluation assigns nothing, and calls nothing but what reads no variable of its own.
--- The bodies of arrows that an expression only makes are not evaluated with it. Scopes are those of names (ECMA-262, 9.1 and 14.2):
+-- Others have places where they aren't pure: the assignments, and the calls that may not be made. The bodies of arrows that an
+-- expression only makes are not evaluated with it, and have none. Scopes are those of names (ECMA-262, 9.1 and 14.2):
 -- a name that a scope declares is its own in the whole of it, and hides a pure function of that name.
 use Rattle.std.specs.Prelude.{Bool, true, false, not, ◌&&◌, ◌||◌, List, [], ◌∷◌, ◌++◌, Option, None, Some, map, filter, codes}
 use Rattle.std.specs.Option.{option_to_list}
 use Rattle.sv_base.specs.declared.names.Name.{Name}
+use Rattle.sv_base.specs.declared.span.Span.{Span}
 use Rattle.sv_ast.specs.declared.names.Ref.{Ref}
 use Rattle.sv_ast.specs.declared.names.Ref.TheVariants.{Plain}
 use Rattle.sv_ast.specs.declared.script_tree.Arm.{Arm, Arm-F, fold-Arm}
@@ -19,55 +21,65 @@ use Rattle.sv_ast.specs.declared.script_tree.StmtKind.{StmtKind, StmtKind-F, fol
 use Rattle.sv_names.specs.Distinct.{has}
 use Rattle.sv_names.specs.Uses.{named, imported}
 use Rattle.sv_purity.specs.Calls.{Table, list_calls, value_calls, math_calls, is_among}
+use Rattle.sv_purity.specs.First.{is_empty}
 
--- a question about a part of a tree, where it was read with a table of names, and some names are those of pure functions
+-- the places of a part of a tree that aren't pure, in the order of the text, where the part was read with a table of names, and
+-- some names are those of pure functions
+abbrev pub Places : Type 0
+Places = Table → List Ref → List Span
+
+-- a question about a part of a tree
 abbrev pub Test : Type 0
 Test = Table → List Ref → Bool
 
--- the form of an expression, as far as a call asks: a name, a member of something, an arrow with whether its body is pure
+-- the form of an expression, as far as a call asks: a name, a member of something, an arrow with the places of its body
 pub data Form : Type 0 where
   Named : Ref → Form
   MemberOf : Form → Name → Form
-  Function : Test → Form
+  Function : Places → Form
   Other : Form
 
--- what is asked of an expression: its form, and whether its evaluation is pure
+-- what is asked of an expression: its form, and the places of its evaluation
 pub record Asked : Type 0 where
   pub form : Form
-  pub test : Test
+  pub places : Places
 
--- what is asked of a statement: the names that it declares in the scope round it, and whether what it does is pure
+-- what is asked of a form of expression, where the expression stands at a span
+abbrev pub Placed : Type 0
+Placed = Span → Asked
+
+-- what is asked of a statement: the names that it declares in the scope round it, and the places of what it does
 pub record Part : Type 0 where
   pub declares : List Ref
-  pub test : Test
+  pub places : Places
 
--- ---- tests of more than one part
+-- ---- places of more than one part
 
-abbrev pub always : Test
-always table pure = true
+abbrev pub nowhere : Places
+nowhere table pure = []
 
-abbrev pub never : Test
-never table pure = false
+abbrev pub here : Span → Places
+here at table pure = at ∷ []
 
-abbrev pub both : Test → Test → Test
-both first second table pure = first table pure && second table pure
+abbrev pub both : Places → Places → Places
+both first second table pure = first table pure ++ second table pure
 
-abbrev pub each : List Test → Test
-each [] = always
-each (test ∷ tests) = both test (each tests)
+abbrev pub each : List Places → Places
+each [] = nowhere
+each (places ∷ more) = both places (each more)
 
 -- an expression that may be absent
-abbrev pub given : Option Asked → Test
-given None = always
-given (Some value) = value.test
+abbrev pub given : Option Asked → Places
+given None = nowhere
+given (Some value) = value.places
 
 -- the pure functions without those of some names
 abbrev pub without : List Ref → List Ref → List Ref
 without names pure = filter (λ name. not (has name names)) pure
 
 -- a scope with some names and what stands in it
-abbrev pub inside : List Ref → Part → Test
-inside names part table pure = part.test table (without (names ++ part.declares) pure)
+abbrev pub inside : List Ref → Part → Places
+inside names part table pure = part.places table (without (names ++ part.declares) pure)
 
 -- ---- calls
 
@@ -79,13 +91,13 @@ is_math _ table = false
 -- a pure function: its name, or an arrow whose body is pure
 abbrev pub is_function : Form → Test
 is_function (Named name) table pure = has name pure
-is_function (Function body) table pure = body table pure
+is_function (Function body) table pure = is_empty (body table pure)
 is_function _ table pure = false
 
 -- the first of some arguments is a pure function
 abbrev pub begins_with_function : List Form → Test
-begins_with_function [] = never
-begins_with_function (first ∷ _) = is_function first
+begins_with_function [] table pure = false
+begins_with_function (first ∷ _) table pure = is_function first table pure
 
 -- the call of a member is one on a list or a text, or one of `Math`
 abbrev pub may_call_member : Form → Name → List Form → Test
@@ -98,123 +110,135 @@ may_call (Named name) args table pure = has name pure
 may_call (MemberOf of word) args table pure = may_call_member of word args table pure
 may_call _ args table pure = false
 
--- a call, beside the evaluation of what is called
-abbrev pub call : Form → List Asked → Test
-call of args = both (each (map (λ arg. arg.test) args)) (may_call of (map (λ arg. arg.form) args))
+-- what a call has of its own: nothing where it may be made
+abbrev pub own_place : Bool → Span → List Span
+own_place true at = []
+own_place false at = at ∷ []
+
+abbrev pub unless : Test → Span → Places
+unless test at table pure = own_place (test table pure) at
+
+-- a call: its own place, and those of its parts
+abbrev pub call : Span → Asked → List Asked → Places
+call at of args = both (unless (may_call of.form (map (λ arg. arg.form) args)) at) (both of.places (each (map (λ arg. arg.places) args)))
 
 -- ---- each form, with what is asked of its parts
 
 -- an expression of no form that a call asks for
-abbrev pub other : Test → Asked
-other test = record { form = Other; test = test }
+abbrev pub other : Places → Asked
+other places = record { form = Other; places = places }
 
-abbrev pub expr_kind : ExprKind-F Part Test Asked Test Part Test Part Asked Test Part → Asked
-expr_kind (ExprKind-F.Read name) = record { form = Named name; test = always }
-expr_kind (ExprKind-F.List items) = other (each items)
-expr_kind (ExprKind-F.Obj fields) = other (each fields)
-expr_kind (ExprKind-F.Template parts) = other (each (map (λ part. part.test) parts))
-expr_kind (ExprKind-F.Arrow params body) = record { form = Function (inside (map named params) body); test = always }
-expr_kind (ExprKind-F.Assign target op value) = other never
-expr_kind (ExprKind-F.Bump target up prefix) = other never
-expr_kind (ExprKind-F.Chain first rest) = other (both first.test (each rest))
-expr_kind (ExprKind-F.Not of) = other of.test
-expr_kind (ExprKind-F.Minus of) = other of.test
-expr_kind (ExprKind-F.Choose test first second) = other (both test.test (both first.test second.test))
-expr_kind (ExprKind-F.Member of word) = record { form = MemberOf of.form word; test = of.test }
-expr_kind (ExprKind-F.Index of at) = other (both of.test at.test)
-expr_kind (ExprKind-F.Call of args) = other (both of.test (call of.form args))
-expr_kind _ = other always
+abbrev pub expr_kind : ExprKind-F Part Places Placed Places Part Places Part Asked Places Part → Placed
+expr_kind (ExprKind-F.Read name) at = record { form = Named name; places = nowhere }
+expr_kind (ExprKind-F.List items) at = other (each items)
+expr_kind (ExprKind-F.Obj fields) at = other (each fields)
+expr_kind (ExprKind-F.Template parts) at = other (each (map (λ part. part.places) parts))
+expr_kind (ExprKind-F.Arrow params body) at = record { form = Function (inside (map named params) body); places = nowhere }
+expr_kind (ExprKind-F.Assign target op value) at = other (both (here at) value.places)
+expr_kind (ExprKind-F.Bump target up prefix) at = other (here at)
+expr_kind (ExprKind-F.Chain first rest) at = other (both first.places (each rest))
+expr_kind (ExprKind-F.Not of) at = other of.places
+expr_kind (ExprKind-F.Minus of) at = other of.places
+expr_kind (ExprKind-F.Choose test first second) at = other (both test.places (both first.places second.places))
+expr_kind (ExprKind-F.Member of word) at = record { form = MemberOf of.form word; places = of.places }
+expr_kind (ExprKind-F.Index of index) at = other (both of.places index.places)
+expr_kind (ExprKind-F.Call of args) at = other (call at of args)
+expr_kind _ at = other nowhere
 
-abbrev pub expr : Expr-F Part Test Asked Test Part Test Part Asked Test Part → Asked
-expr e = e.kind
+abbrev pub expr : Expr-F Part Places Placed Places Part Places Part Asked Places Part → Asked
+expr e = e.kind e.span
 
 -- what declares nothing
-abbrev pub plain : Test → Part
-plain test = record { declares = []; test = test }
+abbrev pub plain : Places → Part
+plain places = record { declares = []; places = places }
 
 abbrev pub together : List Part → Part
-together [] = plain always
-together (p ∷ ps) = record { declares = p.declares ++ (together ps).declares; test = both p.test (together ps).test }
+together [] = plain nowhere
+together (p ∷ ps) = record { declares = p.declares ++ (together ps).declares; places = both p.places (together ps).places }
 
-abbrev pub body : Body-F Part Test Asked Test Part Test Part Asked Test Part → Part
-body (Body-F.Value value) = plain value.test
+abbrev pub body : Body-F Part Places Placed Places Part Places Part Asked Places Part → Part
+body (Body-F.Value value) = plain value.places
 body (Body-F.«Body::Block» stmts) = together stmts
 
-abbrev pub entry : Entry-F Part Test Asked Test Part Test Part Asked Test Part → Test
-entry (Entry-F.One value) = value.test
-entry (Entry-F.«Entry::Spread» value) = value.test
+abbrev pub entry : Entry-F Part Places Placed Places Part Places Part Asked Places Part → Places
+entry (Entry-F.One value) = value.places
+entry (Entry-F.«Entry::Spread» value) = value.places
 
-abbrev pub field : Field-F Part Test Asked Test Part Test Part Asked Test Part → Test
-field (Field-F.Pair key value) = value.test
-field (Field-F.«Field::Spread» value) = value.test
+abbrev pub field : Field-F Part Places Placed Places Part Places Part Asked Places Part → Places
+field (Field-F.Pair key value) = value.places
+field (Field-F.«Field::Spread» value) = value.places
 
-abbrev pub link : Link-F Part Test Asked Test Part Test Part Asked Test Part → Test
-link l = l.right.test
+abbrev pub link : Link-F Part Places Placed Places Part Places Part Asked Places Part → Places
+link l = l.right.places
 
-abbrev pub arm : Arm-F Part Test Asked Test Part Test Part Asked Test Part → Test
-arm a = both a.test.test a.body.test
+abbrev pub arm : Arm-F Part Places Placed Places Part Places Part Asked Places Part → Places
+arm a = both a.test.places a.body.places
 
-abbrev pub decl : Decl-F Part Test Asked Test Part Test Part Asked Test Part → Part
-decl d = record { declares = named d.name ∷ []; test = given d.first }
+abbrev pub decl : Decl-F Part Places Placed Places Part Places Part Asked Places Part → Part
+decl d = record { declares = named d.name ∷ []; places = given d.first }
 
 -- the head of a `for` and its body
-abbrev pub for_head : Part → Test → Test → Test → Test
-for_head first test next body = inside [] (record { declares = first.declares; test = both first.test (both test (both next body)) })
+abbrev pub for_head : Part → Places → Places → Places → Places
+for_head first test next body = inside [] (record { declares = first.declares; places = both first.places (both test (both next body)) })
 
 -- a statement; a function that one declares is only made
-abbrev pub stmt_kind : StmtKind-F Part Test Asked Test Part Test Part Asked Test Part → Part
+abbrev pub stmt_kind : StmtKind-F Part Places Placed Places Part Places Part Asked Places Part → Part
 stmt_kind (StmtKind-F.«StmtKind::Block» stmts) = plain (inside [] (together stmts))
 stmt_kind (StmtKind-F.Let decls) = together decls
 stmt_kind (StmtKind-F.Const decls exported) = together decls
-stmt_kind (StmtKind-F.If arms last) = plain (both (each arms) (together (option_to_list last)).test)
-stmt_kind (StmtKind-F.While test body) = plain (both test.test body.test)
-stmt_kind (StmtKind-F.For first test next body) = plain (for_head (together (option_to_list first)) (given test) (given next) body.test)
-stmt_kind (StmtKind-F.Each name fixed list body) = plain (inside (named name ∷ []) (plain (both list.test body.test)))
+stmt_kind (StmtKind-F.If arms last) = plain (both (each arms) (together (option_to_list last)).places)
+stmt_kind (StmtKind-F.While test body) = plain (both test.places body.places)
+stmt_kind (StmtKind-F.For first test next body) = plain (for_head (together (option_to_list first)) (given test) (given next) body.places)
+stmt_kind (StmtKind-F.Each name fixed list body) = plain (inside (named name ∷ []) (plain (both list.places body.places)))
 stmt_kind (StmtKind-F.Return value) = plain (given value)
-stmt_kind (StmtKind-F.Eval value) = plain value.test
-stmt_kind (StmtKind-F.Import i) = record { declares = imported i; test = always }
+stmt_kind (StmtKind-F.Eval value) = plain value.places
+stmt_kind (StmtKind-F.Import i) = record { declares = imported i; places = nowhere }
 stmt_kind (StmtKind-F.Export decls) = together decls
-stmt_kind (StmtKind-F.React of) = plain of.test
-stmt_kind (StmtKind-F.Func name exported params body) = record { declares = named name ∷ []; test = always }
-stmt_kind _ = plain always
+stmt_kind (StmtKind-F.React of) = plain of.places
+stmt_kind (StmtKind-F.Func name exported params body) = record { declares = named name ∷ []; places = nowhere }
+stmt_kind _ = plain nowhere
 
-abbrev pub stmt : Stmt-F Part Test Asked Test Part Test Part Asked Test Part → Part
+abbrev pub stmt : Stmt-F Part Places Placed Places Part Places Part Asked Places Part → Part
 stmt s = s.kind
 
 -- ---- whole trees
 
 -- what is asked of an expression
 abbrev pub asked : Expr → Asked
-asked = fold-Expr Part Test Asked Test Part Test Part Asked Test Part body entry expr_kind field stmt_kind arm decl expr link stmt
+asked = fold-Expr Part Places Placed Places Part Places Part Asked Places Part body entry expr_kind field stmt_kind arm decl expr link stmt
 
-abbrev pub kind_asked : ExprKind → Asked
-kind_asked = fold-ExprKind Part Test Asked Test Part Test Part Asked Test Part body entry expr_kind field stmt_kind arm decl expr link stmt
+abbrev pub kind_asked : ExprKind → Placed
+kind_asked = fold-ExprKind Part Places Placed Places Part Places Part Asked Places Part body entry expr_kind field stmt_kind arm decl expr link stmt
 
 abbrev pub body_part : Body → Part
-body_part = fold-Body Part Test Asked Test Part Test Part Asked Test Part body entry expr_kind field stmt_kind arm decl expr link stmt
+body_part = fold-Body Part Places Placed Places Part Places Part Asked Places Part body entry expr_kind field stmt_kind arm decl expr link stmt
 
-abbrev pub entry_test : Entry → Test
-entry_test = fold-Entry Part Test Asked Test Part Test Part Asked Test Part body entry expr_kind field stmt_kind arm decl expr link stmt
+abbrev pub entry_places : Entry → Places
+entry_places = fold-Entry Part Places Placed Places Part Places Part Asked Places Part body entry expr_kind field stmt_kind arm decl expr link stmt
 
-abbrev pub field_test : Field → Test
-field_test = fold-Field Part Test Asked Test Part Test Part Asked Test Part body entry expr_kind field stmt_kind arm decl expr link stmt
+abbrev pub field_places : Field → Places
+field_places = fold-Field Part Places Placed Places Part Places Part Asked Places Part body entry expr_kind field stmt_kind arm decl expr link stmt
 
-abbrev pub link_test : Link → Test
-link_test = fold-Link Part Test Asked Test Part Test Part Asked Test Part body entry expr_kind field stmt_kind arm decl expr link stmt
+abbrev pub link_places : Link → Places
+link_places = fold-Link Part Places Placed Places Part Places Part Asked Places Part body entry expr_kind field stmt_kind arm decl expr link stmt
 
-abbrev pub arm_test : Arm → Test
-arm_test = fold-Arm Part Test Asked Test Part Test Part Asked Test Part body entry expr_kind field stmt_kind arm decl expr link stmt
+abbrev pub arm_places : Arm → Places
+arm_places = fold-Arm Part Places Placed Places Part Places Part Asked Places Part body entry expr_kind field stmt_kind arm decl expr link stmt
 
 abbrev pub decl_part : Decl → Part
-decl_part = fold-Decl Part Test Asked Test Part Test Part Asked Test Part body entry expr_kind field stmt_kind arm decl expr link stmt
+decl_part = fold-Decl Part Places Placed Places Part Places Part Asked Places Part body entry expr_kind field stmt_kind arm decl expr link stmt
 
 abbrev pub stmt_kind_part : StmtKind → Part
-stmt_kind_part = fold-StmtKind Part Test Asked Test Part Test Part Asked Test Part body entry expr_kind field stmt_kind arm decl expr link stmt
+stmt_kind_part = fold-StmtKind Part Places Placed Places Part Places Part Asked Places Part body entry expr_kind field stmt_kind arm decl expr link stmt
 
 -- what is asked of a statement
 abbrev pub stmt_part : Stmt → Part
-stmt_part = fold-Stmt Part Test Asked Test Part Test Part Asked Test Part body entry expr_kind field stmt_kind arm decl expr link stmt
+stmt_part = fold-Stmt Part Places Placed Places Part Places Part Asked Places Part body entry expr_kind field stmt_kind arm decl expr link stmt
 
--- an expression is pure, where it was read with a table of names, and some names are those of pure functions
+-- the places of an expression that aren't pure, where it was read with a table of names, and some names are those of pure functions
+abbrev pub impurities : Table → Expr → List Ref → List Span
+impurities table e pure = (asked e).places table pure
+
+-- an expression is pure
 abbrev pub is_pure : Table → Expr → List Ref → Bool
-is_pure table e pure = (asked e).test table pure
+is_pure table e pure = is_empty (impurities table e pure)

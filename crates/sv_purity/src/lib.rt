@@ -1,4 +1,4 @@
-//! Which expressions may stand in markup, because they can't go stale and change nothing.
+//! Which expressions may stand in markup, because they can't go stale and change nothing, and where others do.
 #![tactic(auto)]
 
 mod pure;
@@ -7,4 +7,4 @@ mod scope;
 mod tests;
 mod words;
 
-pub use pure::is_pure;
+pub use pure::{first_impurity, is_pure};

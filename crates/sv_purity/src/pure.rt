@@ -1,7 +1,10 @@
-// Whether an expression is pure.
+// Where an expression isn't pure.
+#![tactic(auto, using(crate::proofs::First::outcome_append))]
+
 ghost use Rattle.std.specs.Prelude.{◌≡◌, map, option_map};
 ghost use Rattle.std.specs.Option.{option_to_list};
 ghost use Rattle.sv_names.specs.Uses.{named};
+ghost use Rattle.sv_purity.specs.First.{first, outcome};
 ghost use Rattle.sv_purity.specs.Pure as spec;
 ghost use Rattle.sv_purity.specs.Scopes.{visible};
 
@@ -11,7 +14,7 @@ use std::slice;
 use sv_ast::{
     Arm, Body, Decl, Entry, Expr, ExprKind, Field, Link, Named, Ref, RefList, Stmt, StmtKind,
 };
-use sv_base::Names;
+use sv_base::{Names, Span};
 use sv_list::Boxed;
 
 /// Whether an expression may stand in markup: its evaluation assigns nothing, has no `++` and no `--`, and each call in it is of
@@ -32,22 +35,35 @@ use sv_list::Boxed;
 ///
 /// The rule is this project's own: a part of a page is evaluated again where a variable that it names has changed, so a call that
 /// reads another one would leave it as it was.
+#[tactic(auto, using(crate::proofs::First::is_none_first))]
 pub fn is_pure(names: &Names, e: &Expr, pure: &RefList) -> bool
     ensures { result ≡ spec.is_pure names.now e.now pure.now }
 {
-    is_pure_expr(e, names, &Scope::Top(pure.as_slice()))
+    first_impurity(names, e, pure).is_none()
 }
 
-#[cycle(walk)]
-fn is_pure_expr(e: &Expr, names: &Names, scope: &Scope<'_>) -> bool
-    ensures { result ≡ (spec.asked e.now).test names.now (visible scope.now) }
+/// The first place where an expression isn't pure, in the order of the text, or `None` where it is: an assignment, a `++` or `--`, or
+/// a call of none of the three kinds. Such a call stands before what is found in its parts. A call on a list whose arrow hasn't a
+/// pure body is that place itself.
+#[tactic(auto, using(crate::proofs::First::result_err_outcome))]
+pub fn first_impurity(names: &Names, e: &Expr, pure: &RefList) -> Option<Span>
+    ensures { result ≡ first (spec.impurities names.now e.now pure.now) }
 {
-    is_pure_kind(&e.kind, names, scope)
+    check_expr(e, names, &Scope::Top(pure.as_slice())).err()
+}
+
+// The functions below look at a part of a tree, and refuse it by its first place that isn't pure.
+
+#[cycle(walk)]
+fn check_expr(e: &Expr, names: &Names, scope: &Scope<'_>) -> Result<(), Span>
+    ensures { result ≡ outcome ((spec.asked e.now).places names.now (visible scope.now)) }
+{
+    check_kind(&e.kind, e.span, names, scope)
 }
 
 #[cycle(walk)]
-fn is_pure_kind(of: &ExprKind, names: &Names, scope: &Scope<'_>) -> bool
-    ensures { result ≡ (spec.kind_asked of.now).test names.now (visible scope.now) }
+fn check_kind(of: &ExprKind, at: Span, names: &Names, scope: &Scope<'_>) -> Result<(), Span>
+    ensures { result ≡ outcome ((spec.kind_asked of.now at).places names.now (visible scope.now)) }
 {
     match of {
         ExprKind::Undefined
@@ -56,116 +72,121 @@ fn is_pure_kind(of: &ExprKind, names: &Names, scope: &Scope<'_>) -> bool
         | ExprKind::Num(_)
         | ExprKind::Text(_)
         | ExprKind::Read(_)
-        | ExprKind::Arrow { .. } => true,
-        ExprKind::Assign { .. } | ExprKind::Bump { .. } => false,
-        ExprKind::List(items) => are_pure_items(items.as_slice(), names, scope),
-        ExprKind::Obj(fields) => are_pure_fields(fields.as_slice(), names, scope),
-        ExprKind::Template(parts) => are_pure_exprs(parts.as_slice(), names, scope),
+        | ExprKind::Arrow { .. } => Ok(()),
+        ExprKind::Assign { .. } | ExprKind::Bump { .. } => Err(at),
+        ExprKind::List(items) => check_items(items.as_slice(), names, scope),
+        ExprKind::Obj(fields) => check_fields(fields.as_slice(), names, scope),
+        ExprKind::Template(parts) => check_exprs(parts.as_slice(), names, scope),
         ExprKind::Chain { first, rest } => {
-            is_pure_expr(first.get(), names, scope) && are_pure_links(rest.as_slice(), names, scope)
+            check_expr(first.get(), names, scope)?;
+            check_links(rest.as_slice(), names, scope)
         }
-        ExprKind::Not(of) | ExprKind::Minus(of) => is_pure_expr(of.get(), names, scope),
+        ExprKind::Not(of) | ExprKind::Minus(of) => check_expr(of.get(), names, scope),
         ExprKind::Choose { test, yes, no } => {
-            is_pure_expr(test.get(), names, scope)
-                && is_pure_expr(yes.get(), names, scope)
-                && is_pure_expr(no.get(), names, scope)
+            check_expr(test.get(), names, scope)?;
+            check_expr(yes.get(), names, scope)?;
+            check_expr(no.get(), names, scope)
         }
-        ExprKind::Member { of, .. } => is_pure_expr(of.get(), names, scope),
+        ExprKind::Member { of, .. } => check_expr(of.get(), names, scope),
         ExprKind::Index { of, at } => {
-            is_pure_expr(of.get(), names, scope) && is_pure_expr(at.get(), names, scope)
+            check_expr(of.get(), names, scope)?;
+            check_expr(at.get(), names, scope)
         }
         ExprKind::Call { of, args } => {
-            is_pure_expr(of.get(), names, scope)
-                && is_pure_call(args.as_slice(), of.get(), names, scope)
+            check_call(args.as_slice(), of.get(), at, names, scope)?;
+            check_expr(of.get(), names, scope)?;
+            check_exprs(args.as_slice(), names, scope)
         }
     }
 }
 
 #[cycle(walk)]
-fn are_pure_exprs(list: &[Expr], names: &Names, scope: &Scope<'_>) -> bool
-    ensures { result ≡ spec.each (map (λ part. part.test) (map spec.asked list.now)) names.now (visible scope.now) }
+fn check_exprs(list: &[Expr], names: &Names, scope: &Scope<'_>) -> Result<(), Span>
+    ensures { result ≡ outcome (spec.each (map (λ part. part.places) (map spec.asked list.now)) names.now (visible scope.now)) }
 {
     for e in list {
-        if !is_pure_expr(e, names, scope) {
-            return false;
-        }
+        check_expr(e, names, scope)?;
     }
-    true
+    Ok(())
 }
 
 #[cycle(walk)]
-fn are_pure_items(items: &[Entry], names: &Names, scope: &Scope<'_>) -> bool
-    ensures { result ≡ spec.each (map spec.entry_test items.now) names.now (visible scope.now) }
+fn check_items(items: &[Entry], names: &Names, scope: &Scope<'_>) -> Result<(), Span>
+    ensures { result ≡ outcome (spec.each (map spec.entry_places items.now) names.now (visible scope.now)) }
 {
     for item in items {
-        if !is_pure_item(item, names, scope) {
-            return false;
-        }
+        check_item(item, names, scope)?;
     }
-    true
+    Ok(())
 }
 
 #[cycle(walk)]
-fn is_pure_item(item: &Entry, names: &Names, scope: &Scope<'_>) -> bool
-    ensures { result ≡ spec.entry_test item.now names.now (visible scope.now) }
+fn check_item(item: &Entry, names: &Names, scope: &Scope<'_>) -> Result<(), Span>
+    ensures { result ≡ outcome (spec.entry_places item.now names.now (visible scope.now)) }
 {
     match item {
-        Entry::One(value) | Entry::Spread(value) => is_pure_expr(value, names, scope),
+        Entry::One(value) | Entry::Spread(value) => check_expr(value, names, scope),
     }
 }
 
 #[cycle(walk)]
-fn are_pure_fields(fields: &[Field], names: &Names, scope: &Scope<'_>) -> bool
-    ensures { result ≡ spec.each (map spec.field_test fields.now) names.now (visible scope.now) }
+fn check_fields(fields: &[Field], names: &Names, scope: &Scope<'_>) -> Result<(), Span>
+    ensures { result ≡ outcome (spec.each (map spec.field_places fields.now) names.now (visible scope.now)) }
 {
     for of in fields {
-        if !is_pure_field(of, names, scope) {
-            return false;
-        }
+        check_field(of, names, scope)?;
     }
-    true
+    Ok(())
 }
 
 #[cycle(walk)]
-fn is_pure_field(of: &Field, names: &Names, scope: &Scope<'_>) -> bool
-    ensures { result ≡ spec.field_test of.now names.now (visible scope.now) }
+fn check_field(of: &Field, names: &Names, scope: &Scope<'_>) -> Result<(), Span>
+    ensures { result ≡ outcome (spec.field_places of.now names.now (visible scope.now)) }
 {
     match of {
-        Field::Pair { value, .. } | Field::Spread(value) => is_pure_expr(value, names, scope),
+        Field::Pair { value, .. } | Field::Spread(value) => check_expr(value, names, scope),
     }
 }
 
 #[cycle(walk)]
-fn are_pure_links(list: &[Link], names: &Names, scope: &Scope<'_>) -> bool
-    ensures { result ≡ spec.each (map spec.link_test list.now) names.now (visible scope.now) }
+fn check_links(list: &[Link], names: &Names, scope: &Scope<'_>) -> Result<(), Span>
+    ensures { result ≡ outcome (spec.each (map spec.link_places list.now) names.now (visible scope.now)) }
 {
     for link in list {
-        if !is_pure_expr(&link.right, names, scope) {
-            return false;
-        }
+        check_expr(&link.right, names, scope)?;
     }
-    true
+    Ok(())
 }
 
 #[cycle(walk)]
-fn is_pure_given(value: &Option<Expr>, names: &Names, scope: &Scope<'_>) -> bool
-    ensures { result ≡ spec.given (option_map spec.asked value.now) names.now (visible scope.now) }
+fn check_given(value: &Option<Expr>, names: &Names, scope: &Scope<'_>) -> Result<(), Span>
+    ensures { result ≡ outcome (spec.given (option_map spec.asked value.now) names.now (visible scope.now)) }
 {
     match value {
-        Some(value) => is_pure_expr(value, names, scope),
-        None => true,
+        Some(value) => check_expr(value, names, scope),
+        None => Ok(()),
     }
 }
 
-// Whether a call is pure, beside the evaluation of what is called.
+// Looks at a call, but not at its parts.
 #[cycle(walk)]
-fn is_pure_call(args: &[Expr], of: &Expr, names: &Names, scope: &Scope<'_>) -> bool
-    ensures { result ≡ spec.call (spec.asked of.now).form (map spec.asked args.now) names.now (visible scope.now) }
+fn check_call(
+    args: &[Expr],
+    of: &Expr,
+    at: Span,
+    names: &Names,
+    scope: &Scope<'_>,
+) -> Result<(), Span>
+    ensures { result ≡ outcome (spec.unless (spec.may_call (spec.asked of.now).form (map (λ arg. arg.form) (map spec.asked args.now))) at names.now (visible scope.now)) }
 {
-    are_pure_exprs(args, names, scope) && may_call(args, of, names, scope)
+    if may_call(args, of, names, scope) {
+        Ok(())
+    } else {
+        Err(at)
+    }
 }
 
-// Whether the call is of one of the three kinds.
+// Whether a call is of one of the three kinds.
 #[cycle(walk)]
 fn may_call(args: &[Expr], of: &Expr, names: &Names, scope: &Scope<'_>) -> bool
     ensures { result ≡ spec.may_call (spec.asked of.now).form (map (λ arg. arg.form) (map spec.asked args.now)) names.now (visible scope.now) }
@@ -204,77 +225,85 @@ fn begins_with_function(args: &[Expr], names: &Names, scope: &Scope<'_>) -> bool
 
 // Whether an argument is the name of a pure function, or an arrow whose body is pure.
 #[cycle(walk)]
+#[tactic(auto, using(crate::proofs::First::is_ok_outcome))]
 fn is_pure_function(e: &Expr, names: &Names, scope: &Scope<'_>) -> bool
     ensures { result ≡ spec.is_function (spec.asked e.now).form names.now (visible scope.now) }
 {
     match &e.kind {
         ExprKind::Read(name) => is_pure_name(scope, *name),
-        ExprKind::Arrow { params, body } => is_pure_arrow(params.as_slice(), body, names, scope),
+        ExprKind::Arrow { params, body } => {
+            check_arrow(params.as_slice(), body, names, scope).is_ok()
+        }
         _ => false,
     }
 }
 
-// Whether the body of an arrow is pure.
+// Looks at the body of an arrow.
 #[cycle(walk)]
-fn is_pure_arrow(params: &[Named], body: &Body, names: &Names, scope: &Scope<'_>) -> bool
-    ensures { result ≡ spec.inside (map named params.now) (spec.body_part body.now) names.now (visible scope.now) }
+fn check_arrow(params: &[Named], body: &Body, names: &Names, scope: &Scope<'_>) -> Result<(), Span>
+    ensures { result ≡ outcome (spec.inside (map named params.now) (spec.body_part body.now) names.now (visible scope.now)) }
 {
     match body {
         Body::Value(value) => {
             let inner = Scope::inside(&*scope, params, &[]);
-            is_pure_expr(value.get(), names, &inner)
+            check_expr(value.get(), names, &inner)
         }
-        Body::Block(stmts) => is_pure_block(params, stmts.as_slice(), names, scope),
+        Body::Block(stmts) => check_block(params, stmts.as_slice(), names, scope),
     }
 }
 
-// Whether the statements of a scope are pure in it.
+// Looks at the statements of a scope.
 #[cycle(walk)]
-fn is_pure_block(params: &[Named], stmts: &[Stmt], names: &Names, scope: &Scope<'_>) -> bool
-    ensures { result ≡ spec.inside (map named params.now) (spec.together (map spec.stmt_part stmts.now)) names.now (visible scope.now) }
+fn check_block(
+    params: &[Named],
+    stmts: &[Stmt],
+    names: &Names,
+    scope: &Scope<'_>,
+) -> Result<(), Span>
+    ensures { result ≡ outcome (spec.inside (map named params.now) (spec.together (map spec.stmt_part stmts.now)) names.now (visible scope.now)) }
 {
     let inner = Scope::inside(&*scope, params, stmts);
-    are_pure_stmts(stmts, names, &inner)
+    check_stmts(stmts, names, &inner)
 }
 
 #[cycle(walk)]
-fn are_pure_stmts(stmts: &[Stmt], names: &Names, scope: &Scope<'_>) -> bool
-    ensures { result ≡ (spec.together (map spec.stmt_part stmts.now)).test names.now (visible scope.now) }
+fn check_stmts(stmts: &[Stmt], names: &Names, scope: &Scope<'_>) -> Result<(), Span>
+    ensures { result ≡ outcome ((spec.together (map spec.stmt_part stmts.now)).places names.now (visible scope.now)) }
 {
     for of in stmts {
-        if !is_pure_stmt(of, names, scope) {
-            return false;
-        }
+        check_stmt(of, names, scope)?;
     }
-    true
+    Ok(())
 }
 
 #[cycle(walk)]
-fn is_pure_stmt(of: &Stmt, names: &Names, scope: &Scope<'_>) -> bool
-    ensures { result ≡ (spec.stmt_part of.now).test names.now (visible scope.now) }
+fn check_stmt(of: &Stmt, names: &Names, scope: &Scope<'_>) -> Result<(), Span>
+    ensures { result ≡ outcome ((spec.stmt_part of.now).places names.now (visible scope.now)) }
 {
-    is_pure_stmt_kind(&of.kind, names, scope)
+    check_stmt_kind(&of.kind, names, scope)
 }
 
 #[cycle(walk)]
-fn is_pure_stmt_kind(of: &StmtKind, names: &Names, scope: &Scope<'_>) -> bool
-    ensures { result ≡ (spec.stmt_kind_part of.now).test names.now (visible scope.now) }
+fn check_stmt_kind(of: &StmtKind, names: &Names, scope: &Scope<'_>) -> Result<(), Span>
+    ensures { result ≡ outcome ((spec.stmt_kind_part of.now).places names.now (visible scope.now)) }
 {
     match of {
         StmtKind::Empty
         | StmtKind::Break
         | StmtKind::Continue
         | StmtKind::Import(_)
-        | StmtKind::Func { .. } => true,
-        StmtKind::Block(stmts) => is_pure_block(&[], stmts.as_slice(), names, scope),
-        StmtKind::Let(decls) => are_pure_decls(decls.as_slice(), names, scope),
-        StmtKind::Const { decls, .. } => are_pure_decls(decls.as_slice(), names, scope),
-        StmtKind::Export(decls) => are_pure_decls(decls.as_slice(), names, scope),
+        | StmtKind::Func { .. } => Ok(()),
+        StmtKind::Block(stmts) => check_block(&[], stmts.as_slice(), names, scope),
+        StmtKind::Let(decls) => check_decls(decls.as_slice(), names, scope),
+        StmtKind::Const { decls, .. } => check_decls(decls.as_slice(), names, scope),
+        StmtKind::Export(decls) => check_decls(decls.as_slice(), names, scope),
         StmtKind::If { arms, last } => {
-            are_pure_arms(arms.as_slice(), names, scope) && is_pure_optional(last, names, scope)
+            check_arms(arms.as_slice(), names, scope)?;
+            check_optional(last, names, scope)
         }
         StmtKind::While { test, body } => {
-            is_pure_expr(test, names, scope) && is_pure_stmt(body.get(), names, scope)
+            check_expr(test, names, scope)?;
+            check_stmt(body.get(), names, scope)
         }
         StmtKind::For {
             first,
@@ -284,10 +313,10 @@ fn is_pure_stmt_kind(of: &StmtKind, names: &Names, scope: &Scope<'_>) -> bool
         } => {
             let head = head(first);
             let inner = Scope::inside(&*scope, &[], head);
-            are_pure_stmts(head, names, &inner)
-                && is_pure_given(test, names, &inner)
-                && is_pure_given(next, names, &inner)
-                && is_pure_stmt(body.get(), names, &inner)
+            check_stmts(head, names, &inner)?;
+            check_given(test, names, &inner)?;
+            check_given(next, names, &inner)?;
+            check_stmt(body.get(), names, &inner)
         }
         StmtKind::Each {
             name,
@@ -296,11 +325,12 @@ fn is_pure_stmt_kind(of: &StmtKind, names: &Names, scope: &Scope<'_>) -> bool
             ..
         } => {
             let inner = Scope::inside(&*scope, slice::from_ref(name), &[]);
-            is_pure_expr(list, names, &inner) && is_pure_stmt(body.get(), names, &inner)
+            check_expr(list, names, &inner)?;
+            check_stmt(body.get(), names, &inner)
         }
-        StmtKind::Return(value) => is_pure_given(value, names, scope),
-        StmtKind::Eval(value) => is_pure_expr(value, names, scope),
-        StmtKind::React(of) => is_pure_stmt(of.get(), names, scope),
+        StmtKind::Return(value) => check_given(value, names, scope),
+        StmtKind::Eval(value) => check_expr(value, names, scope),
+        StmtKind::React(of) => check_stmt(of.get(), names, scope),
     }
 }
 
@@ -315,42 +345,39 @@ fn head(first: &Option<Boxed<Stmt>>) -> &[Stmt]
 }
 
 #[cycle(walk)]
-fn is_pure_optional(of: &Option<Boxed<Stmt>>, names: &Names, scope: &Scope<'_>) -> bool
-    ensures { result ≡ (spec.together (option_to_list (option_map spec.stmt_part of.now))).test names.now (visible scope.now) }
+fn check_optional(of: &Option<Boxed<Stmt>>, names: &Names, scope: &Scope<'_>) -> Result<(), Span>
+    ensures { result ≡ outcome ((spec.together (option_to_list (option_map spec.stmt_part of.now))).places names.now (visible scope.now)) }
 {
     match of {
-        Some(of) => is_pure_stmt(of.get(), names, scope),
-        None => true,
+        Some(of) => check_stmt(of.get(), names, scope),
+        None => Ok(()),
     }
 }
 
 #[cycle(walk)]
-fn are_pure_decls(list: &[Decl], names: &Names, scope: &Scope<'_>) -> bool
-    ensures { result ≡ (spec.together (map spec.decl_part list.now)).test names.now (visible scope.now) }
+fn check_decls(list: &[Decl], names: &Names, scope: &Scope<'_>) -> Result<(), Span>
+    ensures { result ≡ outcome ((spec.together (map spec.decl_part list.now)).places names.now (visible scope.now)) }
 {
     for decl in list {
-        if !is_pure_given(&decl.first, names, scope) {
-            return false;
-        }
+        check_given(&decl.first, names, scope)?;
     }
-    true
+    Ok(())
 }
 
 #[cycle(walk)]
-fn are_pure_arms(list: &[Arm], names: &Names, scope: &Scope<'_>) -> bool
-    ensures { result ≡ spec.each (map spec.arm_test list.now) names.now (visible scope.now) }
+fn check_arms(list: &[Arm], names: &Names, scope: &Scope<'_>) -> Result<(), Span>
+    ensures { result ≡ outcome (spec.each (map spec.arm_places list.now) names.now (visible scope.now)) }
 {
     for of in list {
-        if !is_pure_arm(of, names, scope) {
-            return false;
-        }
+        check_arm(of, names, scope)?;
     }
-    true
+    Ok(())
 }
 
 #[cycle(walk)]
-fn is_pure_arm(of: &Arm, names: &Names, scope: &Scope<'_>) -> bool
-    ensures { result ≡ spec.arm_test of.now names.now (visible scope.now) }
+fn check_arm(of: &Arm, names: &Names, scope: &Scope<'_>) -> Result<(), Span>
+    ensures { result ≡ outcome (spec.arm_places of.now names.now (visible scope.now)) }
 {
-    is_pure_expr(&of.test, names, scope) && is_pure_stmt(&of.body, names, scope)
+    check_expr(&of.test, names, scope)?;
+    check_stmt(&of.body, names, scope)
 }

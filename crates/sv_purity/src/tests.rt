@@ -1,14 +1,15 @@
-// Which texts are pure: those of each kind of call, those in which a scope hides a pure function, and those with an impure part.
-use crate::is_pure;
+// Which texts are pure: those of each kind of call, those in which a scope hides a pure function, and those with an impure part;
+// and where others aren't.
+use crate::{first_impurity, is_pure};
 use std::alloc::Global;
 use std::process::Abort;
 use std::test::Fail;
 use sv_ast::{Ref, RefList};
-use sv_base::Names;
+use sv_base::{Names, Span};
 use sv_script::parse_expr;
 
-// Whether a text is pure where this is the one name of a pure function.
-fn holds(alloc: Global, text: &str, function: &str) -> Result<bool, Fail> {
+// Whether a text is pure where this is the one name of a pure function, and the first place where it isn't.
+fn told(alloc: Global, text: &str, function: &str) -> Result<(bool, Option<Span>), Fail> {
     let bytes = text.as_bytes();
     if bytes.len() >= 100_000 {
         return Err("too long".into());
@@ -20,7 +21,14 @@ fn holds(alloc: Global, text: &str, function: &str) -> Result<bool, Fail> {
     if (end as usize) < bytes.len() {
         return Err("more than an expression".into());
     }
-    Ok(is_pure(&names, &e, &pure))
+    Ok((
+        is_pure(&names, &e, &pure),
+        first_impurity(&names, &e, &pure),
+    ))
+}
+
+fn holds(alloc: Global, text: &str, function: &str) -> Result<bool, Fail> {
+    Ok(told(alloc, text, function)?.0)
 }
 
 type Case = (&'static str, bool);
@@ -164,6 +172,31 @@ fn a_text_is_as_pure_as_its_parts(rt: HostRuntime) -> Result<(), Fail> {
     for text in PARTS {
         assert!(rt; holds(rt.alloc(), text, "f")?, "{text}");
         assert!(rt; !holds(rt.alloc(), text, "g")?, "{text}");
+    }
+    Ok(())
+}
+
+// Texts, and the first place in each that isn't pure.
+const PLACES: [(&str, Option<(u32, u32)>); 12] = [
+    ("f(0)", None),
+    ("g(0)", Some((0, 4))),
+    ("f(g(0))", Some((2, 6))),
+    ("g(g(0))", Some((0, 7))),
+    ("f(0)(0)", Some((0, 7))),
+    ("0 + x++", Some((4, 7))),
+    ("x = g(0)", Some((0, 8))),
+    ("[g(0), h(0)]", Some((1, 5))),
+    ("l.map(x => g(x))", Some((0, 16))),
+    ("l.map(f).slice(g(0))", Some((15, 19))),
+    ("f(0) ? x = 1 : 0", Some((7, 12))),
+    ("console.log(0)", Some((0, 14))),
+];
+
+#[test]
+fn the_first_impure_place_is_told(rt: HostRuntime) -> Result<(), Fail> {
+    for (text, place) in PLACES {
+        let expected = place.map(|(from, to)| Span { file: 0, from, to });
+        assert_eq!(rt; told(rt.alloc(), text, "f")?.1, expected, "{text}");
     }
     Ok(())
 }

@@ -1,25 +1,26 @@
 use Rattle.std.proofs.Common.{◌≡◌, map, drop}
-use Rattle.sv_purity.specs.Pure.{each, together, asked, entry_test, field_test, link_test, arm_test, decl_part, stmt_part}
+use Rattle.sv_purity.specs.First.{outcome}
+use Rattle.sv_purity.specs.Pure.{each, together, asked, entry_places, field_places, link_places, arm_places, decl_part, stmt_part}
 use Rattle.sv_purity.specs.Scopes.{visible}
 use Rattle.sv_purity.proofs.pure.+walk.Given as goal
 
-abbrev pub invariant-are_pure_exprs-loop-e : goal.invariant-are_pure_exprs-loop-e
-invariant-are_pure_exprs-loop-e l = each (map (λ part. part.test) (map asked l.list)) l.names (visible l.scope) ≡ each (map (λ part. part.test) (map asked (drop l.e-index l.list))) l.names (visible l.scope)
+abbrev pub invariant-check_exprs-loop-e : goal.invariant-check_exprs-loop-e
+invariant-check_exprs-loop-e l = outcome (each (map (λ part. part.places) (map asked l.list)) l.names (visible l.scope)) ≡ outcome (each (map (λ part. part.places) (map asked (drop l.e-index l.list))) l.names (visible l.scope))
 
-abbrev pub invariant-are_pure_items-loop-item : goal.invariant-are_pure_items-loop-item
-invariant-are_pure_items-loop-item l = each (map entry_test l.items) l.names (visible l.scope) ≡ each (map entry_test (drop l.item-index l.items)) l.names (visible l.scope)
+abbrev pub invariant-check_items-loop-item : goal.invariant-check_items-loop-item
+invariant-check_items-loop-item l = outcome (each (map entry_places l.items) l.names (visible l.scope)) ≡ outcome (each (map entry_places (drop l.item-index l.items)) l.names (visible l.scope))
 
-abbrev pub invariant-are_pure_fields-loop-of : goal.invariant-are_pure_fields-loop-of
-invariant-are_pure_fields-loop-of l = each (map field_test l.fields) l.names (visible l.scope) ≡ each (map field_test (drop l.of-index l.fields)) l.names (visible l.scope)
+abbrev pub invariant-check_fields-loop-of : goal.invariant-check_fields-loop-of
+invariant-check_fields-loop-of l = outcome (each (map field_places l.fields) l.names (visible l.scope)) ≡ outcome (each (map field_places (drop l.of-index l.fields)) l.names (visible l.scope))
 
-abbrev pub invariant-are_pure_links-loop-link : goal.invariant-are_pure_links-loop-link
-invariant-are_pure_links-loop-link l = each (map link_test l.list) l.names (visible l.scope) ≡ each (map link_test (drop l.link-index l.list)) l.names (visible l.scope)
+abbrev pub invariant-check_links-loop-link : goal.invariant-check_links-loop-link
+invariant-check_links-loop-link l = outcome (each (map link_places l.list) l.names (visible l.scope)) ≡ outcome (each (map link_places (drop l.link-index l.list)) l.names (visible l.scope))
 
-abbrev pub invariant-are_pure_arms-loop-of : goal.invariant-are_pure_arms-loop-of
-invariant-are_pure_arms-loop-of l = each (map arm_test l.list) l.names (visible l.scope) ≡ each (map arm_test (drop l.of-index l.list)) l.names (visible l.scope)
+abbrev pub invariant-check_arms-loop-of : goal.invariant-check_arms-loop-of
+invariant-check_arms-loop-of l = outcome (each (map arm_places l.list) l.names (visible l.scope)) ≡ outcome (each (map arm_places (drop l.of-index l.list)) l.names (visible l.scope))
 
-abbrev pub invariant-are_pure_decls-loop-decl : goal.invariant-are_pure_decls-loop-decl
-invariant-are_pure_decls-loop-decl l = (together (map decl_part l.list)).test l.names (visible l.scope) ≡ (together (map decl_part (drop l.decl-index l.list))).test l.names (visible l.scope)
+abbrev pub invariant-check_decls-loop-decl : goal.invariant-check_decls-loop-decl
+invariant-check_decls-loop-decl l = outcome ((together (map decl_part l.list)).places l.names (visible l.scope)) ≡ outcome ((together (map decl_part (drop l.decl-index l.list))).places l.names (visible l.scope))
 
-abbrev pub invariant-are_pure_stmts-loop-of : goal.invariant-are_pure_stmts-loop-of
-invariant-are_pure_stmts-loop-of l = (together (map stmt_part l.stmts)).test l.names (visible l.scope) ≡ (together (map stmt_part (drop l.of-index l.stmts))).test l.names (visible l.scope)
+abbrev pub invariant-check_stmts-loop-of : goal.invariant-check_stmts-loop-of
+invariant-check_stmts-loop-of l = outcome ((together (map stmt_part l.stmts)).places l.names (visible l.scope)) ≡ outcome ((together (map stmt_part (drop l.of-index l.stmts))).places l.names (visible l.scope))
