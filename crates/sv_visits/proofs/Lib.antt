@@ -8,3 +8,4 @@ pub mod SearchWork
 pub mod Turning
 pub mod Cycling
 pub mod Flooding
+pub mod Reaching

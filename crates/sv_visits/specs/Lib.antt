@@ -6,3 +6,4 @@ pub mod Walk
 pub mod Search
 pub mod Visited
 pub mod Groups
+pub mod Reached

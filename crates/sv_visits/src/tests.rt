@@ -1,5 +1,5 @@
-// Points without links; `sv_order` tests those with links.
-use crate::{Visited, unlinked, visit};
+// Points without links; `sv_order` and `sv_stains` test those with links.
+use crate::{Visited, reached, unlinked, visit};
 use std::test::Fail;
 
 #[test]
@@ -12,5 +12,14 @@ fn points_without_links_keep_their_order(rt: HostRuntime) -> Result<(), Fail> {
     };
     assert!(rt; is_order);
     assert_eq!(rt; points.as_slice(), [0, 1, 2].as_slice());
+    Ok(())
+}
+
+#[test]
+fn points_without_links_lead_nowhere(rt: HostRuntime) -> Result<(), Fail> {
+    let alloc = rt.alloc();
+    let links = unlinked(alloc, 3)?;
+    let met = reached(alloc, &links, &[2, 0])?;
+    assert_eq!(rt; met.as_slice(), [true, false, true].as_slice());
     Ok(())
 }
