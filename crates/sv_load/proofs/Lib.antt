@@ -1,0 +1,8 @@
+pub mod Starts
+pub mod Places
+pub mod Told
+pub mod Finding
+pub mod Reading
+pub mod OneTree
+pub mod OneOutcome
+pub mod Named

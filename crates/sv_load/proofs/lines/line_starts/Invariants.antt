@@ -1,0 +1,9 @@
+use Rattle.std.proofs.Common.{◌≡◌, take}
+use Rattle.sv_load.specs.Lines.{line_starts}
+use Rattle.sv_load.proofs.lines.line_starts.Given as goal
+
+abbrev pub invariant-loop-byte : goal.invariant-loop-byte
+invariant-loop-byte l = record {
+  at : l.at ≡ l.byte-index;
+  lines : l.lines ≡ line_starts (take l.byte-index l.bytes);
+}

@@ -1,0 +1,6 @@
+pub mod Lines
+pub mod Imports
+pub mod Trees
+pub mod Loads
+pub mod Calls
+pub mod Laws

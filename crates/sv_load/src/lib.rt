@@ -1,0 +1,18 @@
+//! Loading: reads the files of a program from a shelf, in the order of their imports and each with its tree, and tells the
+//! line and the column of a place in them.
+#![tactic(auto)]
+
+mod file;
+mod imports;
+mod laws;
+mod lines;
+mod loading;
+mod refusals;
+#[cfg(test)]
+mod tests;
+
+pub use file::FILE_COUNT_LIMIT;
+pub use laws::one_outcome;
+pub use lines::place_of;
+pub use loading::load;
+pub use refusals::LoadError;
