@@ -34,7 +34,7 @@ impl Distinct {
     }
 
     /// How many names there are.
-    pub(crate) fn len(&self) -> usize
+    pub fn len(&self) -> usize
         ensures { result ≡ length self.now }
     {
         self.names.len()
@@ -57,7 +57,7 @@ impl Distinct {
     }
 
     /// Keeps the first `count` names alone.
-    pub(crate) fn cut(&mut self, count: usize)
+    pub fn cut(&mut self, count: usize)
         ensures { self.new ≡ take count self.old }
     {
         self.names.truncate(count);

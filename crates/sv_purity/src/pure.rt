@@ -39,17 +39,17 @@ use sv_list::Boxed;
 pub fn is_pure(names: &Names, e: &Expr, pure: &RefList) -> bool
     ensures { result ≡ spec.is_pure names.now e.now pure.now }
 {
-    first_impurity(names, e, pure).is_none()
+    first_impurity(names, e, &Scope::Listed(pure.as_slice())).is_none()
 }
 
 /// The first place where an expression isn't pure, in the order of the text, or `None` where it is: an assignment, a `++` or `--`, or
 /// a call of none of the three kinds. Such a call stands before what is found in its parts. A call on a list whose arrow hasn't a
-/// pure body is that place itself.
+/// pure body is that place itself. `scope` tells which pure functions are seen where the expression stands.
 #[tactic(auto, using(crate::proofs::First::result_err_outcome))]
-pub fn first_impurity(names: &Names, e: &Expr, pure: &RefList) -> Option<Span>
-    ensures { result ≡ first (spec.impurities names.now e.now pure.now) }
+pub fn first_impurity(names: &Names, e: &Expr, scope: &Scope<'_>) -> Option<Span>
+    ensures { result ≡ first (spec.impurities names.now e.now (visible scope.now)) }
 {
-    check_expr(e, names, &Scope::Top(pure.as_slice())).err()
+    check_expr(e, names, scope).err()
 }
 
 // The functions below look at a part of a tree, and refuse it by its first place that isn't pure.

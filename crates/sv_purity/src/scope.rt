@@ -6,13 +6,22 @@ ghost use Rattle.sv_purity.specs.Pure.{together, decl_part, stmt_part, without};
 ghost use Rattle.sv_purity.specs.Scopes.{declared_by, visible};
 
 use sv_ast::{Decl, Import, Named, Ref, Spec, Stmt, StmtKind};
+use sv_names::Distinct;
 
-/// What is seen from inside an expression: the pure functions, and the scopes round it that may hide some of them.
+/// The pure functions that are seen from some place: those of the whole, but for what the scopes round the place hide. A clause sees
+/// it by `visible`, the list of their names.
 #[derive(Drop)]
-pub(crate) enum Scope<'a> {
-    /// Round the whole expression: the names of the pure functions there.
-    Top(&'a [Ref]),
-    /// A scope in another.
+pub enum Scope<'a> {
+    /// Round the whole: the names of the pure functions.
+    Top(&'a Distinct),
+    /// The same as a list, in which each name is looked for from the front.
+    Listed(&'a [Ref]),
+    /// In a scope that declares some names.
+    Hiding {
+        outer: &'a Scope<'a>,
+        names: &'a Distinct,
+    },
+    /// In a scope that declares parameters, and what its statements declare.
     Inner {
         outer: &'a Scope<'a>,
         params: &'a [Named],
@@ -39,7 +48,9 @@ pub(crate) fn is_pure_name(scope: &Scope<'_>, name: Ref) -> bool
     ensures { result ≡ has name (visible scope.now) }
 {
     match scope {
-        Scope::Top(pure) => pure.contains(&name),
+        Scope::Top(pure) => pure.has(name),
+        Scope::Listed(pure) => pure.contains(&name),
+        Scope::Hiding { outer, names } => !names.has(name) && is_pure_name(outer, name),
         Scope::Inner {
             outer,
             params,

@@ -1,11 +1,12 @@
 // Which texts are pure: those of each kind of call, those in which a scope hides a pure function, and those with an impure part;
 // and where others aren't.
-use crate::{first_impurity, is_pure};
+use crate::{Scope, first_impurity, is_pure};
 use std::alloc::Global;
 use std::process::Abort;
 use std::test::Fail;
 use sv_ast::{Ref, RefList};
 use sv_base::{Names, Span};
+use sv_names::Distinct;
 use sv_script::parse_expr;
 
 // Whether a text is pure where this is the one name of a pure function, and the first place where it isn't.
@@ -15,15 +16,18 @@ fn told(alloc: Global, text: &str, function: &str) -> Result<(bool, Option<Span>
         return Err("too long".into());
     }
     let mut names = Names::new(alloc)?;
+    let function = Ref::Plain(names.intern(function)?);
     let mut pure = RefList::new(alloc);
-    pure.push(Ref::Plain(names.intern(function)?))?;
+    pure.push(function)?;
+    let mut known = Distinct::new(alloc);
+    known.add(function)?;
     let (e, end) = parse_expr(alloc, &mut names, 0, bytes, 0)?;
     if (end as usize) < bytes.len() {
         return Err("more than an expression".into());
     }
     Ok((
         is_pure(&names, &e, &pure),
-        first_impurity(&names, &e, &pure),
+        first_impurity(&names, &e, &Scope::Top(&known)),
     ))
 }
 
@@ -198,5 +202,27 @@ fn the_first_impure_place_is_told(rt: HostRuntime) -> Result<(), Fail> {
         let expected = place.map(|(from, to)| Span { file: 0, from, to });
         assert_eq!(rt; told(rt.alloc(), text, "f")?.1, expected, "{text}");
     }
+    Ok(())
+}
+
+#[test]
+fn the_names_of_a_scope_hide_pure_functions(rt: HostRuntime) -> Result<(), Fail> {
+    let alloc = rt.alloc();
+    let mut names = Names::new(alloc)?;
+    let mut own = Distinct::new(alloc);
+    own.add(Ref::Plain(names.intern("f")?))?;
+    let (e, _) = parse_expr(alloc, &mut names, 0, b"l.map(f)", 0)?;
+    let around = Scope::Top(&own);
+    let inside = Scope::Hiding {
+        outer: &around,
+        names: &own,
+    };
+    let whole = Span {
+        file: 0,
+        from: 0,
+        to: 8,
+    };
+    assert_eq!(rt; first_impurity(&names, &e, &around), None);
+    assert_eq!(rt; first_impurity(&names, &e, &inside), Some(whole));
     Ok(())
 }

@@ -32,28 +32,28 @@ const VALUE_CALLS: [&str; 9] = [
 const MATH_CALLS: [&str; 5] = ["abs", "min", "max", "floor", "trunc"];
 
 /// Whether a name is that of a call on a list that goes by a function.
-pub(crate) fn is_list_call(names: &Names, name: Name) -> bool
+pub fn is_list_call(names: &Names, name: Name) -> bool
     ensures { result ≡ spec.is_among spec.list_calls names.now name }
 {
     is_among(names, name, &LIST_CALLS)
 }
 
 /// Whether a name is that of another call on a list, or of one on a text.
-pub(crate) fn is_value_call(names: &Names, name: Name) -> bool
+pub fn is_value_call(names: &Names, name: Name) -> bool
     ensures { result ≡ spec.is_among spec.value_calls names.now name }
 {
     is_among(names, name, &VALUE_CALLS)
 }
 
 /// Whether a name is that of a function of `Math`.
-pub(crate) fn is_math_call(names: &Names, name: Name) -> bool
+pub fn is_math_call(names: &Names, name: Name) -> bool
     ensures { result ≡ spec.is_among spec.math_calls names.now name }
 {
     is_among(names, name, &MATH_CALLS)
 }
 
 /// Whether a name is `Math`.
-pub(crate) fn is_math(names: &Names, name: Name) -> bool
+pub fn is_math(names: &Names, name: Name) -> bool
     ensures { result ≡ spec.is_among (codes "Math" ∷ []) names.now name }
 {
     is_among(names, name, &["Math"])

@@ -50,13 +50,14 @@ step (Some first) next done is = elim (cases_lt next.at.from first.at.from) [
   })
 ]
 
-from : (first : Option CheckRefusal) (done rest : List CheckRefusal) → IsFirst first done → IsFirst (fold earlier first rest) (done ++ rest)
-from first done [] is = subst (IsFirst first) (sym (append-nil done)) is
-from first done (next ∷ rest) is = subst (IsFirst (fold earlier (earlier first next) rest)) (append_assoc done (next ∷ []) rest) (from (earlier first next) (done ++ next ∷ []) rest (step first next done is))
+-- more mistakes behind those of which one is the first
+pub IsFirst-fold : (first : Option CheckRefusal) (done rest : List CheckRefusal) → IsFirst first done → IsFirst (fold earlier first rest) (done ++ rest)
+IsFirst-fold first done [] is = subst (IsFirst first) (sym (append-nil done)) is
+IsFirst-fold first done (next ∷ rest) is = subst (IsFirst (fold earlier (earlier first next) rest)) (append_assoc done (next ∷ []) rest) (IsFirst-fold (earlier first next) (done ++ next ∷ []) rest (step first next done is))
 
 -- what is left of all that was offered is the first
 pub first_is : (list : List CheckRefusal) → IsFirst (fold earlier None list) list
-first_is list = from None [] list refl
+first_is list = IsFirst-fold None [] list refl
 
 -- ---- all scopes of a file
 

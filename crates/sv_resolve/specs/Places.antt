@@ -6,6 +6,7 @@ use Rattle.sv_ast.specs.declared.names.Ref.{Ref}
 use Rattle.sv_ast.specs.declared.names.Ref.TheVariants.{Plain, Store}
 use Rattle.sv_base.specs.declared.names.Name.{Name}
 use Rattle.sv_base.specs.declared.span.Span.{Span}
+use Rattle.sv_scopes.specs.declared.words.Declared.{Declared}
 use Rattle.sv_scopes.specs.declared.words.Form.{Form}
 use Rattle.sv_scopes.specs.declared.words.Form.TheVariants.{BumpedBefore}
 use Rattle.sv_scopes.specs.declared.words.Use.{Use}
@@ -38,3 +39,7 @@ place_by _ count span = front count span
 -- where the name of a use stands: at the end of `++x` and `--x`, and else at the front
 abbrev pub name_place : List (List ℕ) → Use → Span
 name_place names u = place_by u.form (width names u.name) u.span
+
+-- where a name that is declared stands: at the front of its declaration
+abbrev pub declaration_place : List (List ℕ) → Declared → Span
+declaration_place names d = front (text_len names d.name) d.span

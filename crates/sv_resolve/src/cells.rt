@@ -19,8 +19,8 @@ pub struct Scopes {
     pub constants: RefList,
 }
 
-/// The names of a top level.
-pub(crate) fn scopes_of(alloc: Global, top: &Scope) -> Result<Scopes, NoMemory>
+/// The names of a top level: its cells and its constants. `NoMemory` comes at want of memory alone.
+pub fn scopes_of(alloc: Global, top: &Scope) -> Result<Scopes, NoMemory>
     ensures { IfOk result (λ scopes. scopes ≡ spec.scopes top.now) }
 {
     let mut scopes = Scopes {
@@ -50,7 +50,8 @@ fn add_declared(scopes: &mut Scopes, declares: &[Declared]) -> Result<(), NoMemo
     Ok(())
 }
 
-fn is_variable(by: Binding) -> bool
+/// Whether what is declared so is a variable.
+pub fn is_variable(by: Binding) -> bool
     ensures { result ≡ spec.is_variable by }
 {
     matches!(by, Binding::Let | Binding::Export | Binding::Reactive)
@@ -69,7 +70,8 @@ fn add_stores(alloc: Global, cells: &mut RefList, uses: &[Use]) -> Result<(), No
     Ok(())
 }
 
-fn is_store(name: Ref) -> bool
+/// Whether a name is that of a store, and not of the owner's view.
+pub fn is_store(name: Ref) -> bool
     ensures { result ≡ spec.is_store name }
 {
     match name {
@@ -84,7 +86,8 @@ fn uses_view(uses: &[Use]) -> bool
     uses.iter().any(|found| is_view(found.name))
 }
 
-fn is_view(name: Ref) -> bool
+/// Whether a name is that of the owner's view.
+pub fn is_view(name: Ref) -> bool
     ensures { result ≡ same_ref name VIEW }
 {
     name == VIEW

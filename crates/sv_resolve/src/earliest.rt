@@ -6,7 +6,7 @@ use crate::refusals::{CheckKind, CheckRefusal};
 use sv_base::Span;
 
 /// Keeps a mistake in place of the first one so far, if it begins before that.
-pub(crate) fn offer(first: &mut Option<CheckRefusal>, kind: CheckKind, at: Span)
+pub fn offer(first: &mut Option<CheckRefusal>, kind: CheckKind, at: Span)
     ensures { first.new ≡ earlier first.old (record { kind = kind; at = at }) }
 {
     let is_earlier = match first {

@@ -12,5 +12,7 @@ mod table;
 mod tests;
 
 pub use calls::{first_mistake, resolve, resolve_module};
-pub use cells::Scopes;
+pub use cells::{Scopes, is_store, is_variable, is_view, scopes_of};
+pub use earliest::offer;
+pub use places::{declaration_place, is_text, name_place};
 pub use refusals::{CheckError, CheckKind, CheckRefusal};

@@ -4,10 +4,10 @@ ghost use Rattle.sv_resolve.specs.Places as spec;
 
 use sv_ast::Ref;
 use sv_base::{Name, Names, Span};
-use sv_scopes::{Form, Use};
+use sv_scopes::{Declared, Form, Use};
 
 /// Whether a name has some text.
-pub(crate) fn is_text(names: &Names, text: &str, name: Name) -> bool
+pub fn is_text(names: &Names, text: &str, name: Name) -> bool
     ensures { result ≡ spec.is_text names.now text.now name }
 {
     match names.text(name) {
@@ -57,7 +57,7 @@ fn end(count: usize, span: Span) -> Span
 }
 
 /// Where the name of a use stands.
-pub(crate) fn name_place(names: &Names, found: &Use) -> Span
+pub fn name_place(names: &Names, found: &Use) -> Span
     ensures { result ≡ spec.name_place names.now found.now }
 {
     let count = width(names, found.name);
@@ -65,4 +65,11 @@ pub(crate) fn name_place(names: &Names, found: &Use) -> Span
         Form::BumpedBefore => end(count, found.span),
         Form::Read | Form::Assigned | Form::BumpedBehind => front(count, found.span),
     }
+}
+
+/// Where a name that is declared stands, at the front of its declaration.
+pub fn declaration_place(names: &Names, declared: &Declared) -> Span
+    ensures { result ≡ spec.declaration_place names.now declared.now }
+{
+    front(text_len(names, declared.name), declared.span)
 }

@@ -3,3 +3,4 @@ pub mod Leaving
 pub mod Loops
 pub mod Scoping
 pub mod Tags
+pub mod LocalNames

@@ -10,8 +10,7 @@ use Rattle.sv_ast.specs.declared.markup_tree.AttrValue.TheVariants as value
 use Rattle.sv_ast.specs.declared.markup_tree.TagAttr.{TagAttr}
 use Rattle.sv_ast.specs.declared.names.Ref.{Ref}
 use Rattle.sv_ast.specs.declared.names.Ref.TheVariants.{Plain}
-use Rattle.sv_ast.specs.declared.script_tree.Expr.{Expr}
-use Rattle.sv_ast.specs.declared.script_tree.ExprKind.{ExprKind, ExprKind-F, out-ExprKind}
+use Rattle.sv_ast.specs.declared.script_tree.ExprKind.{ExprKind-F, out-ExprKind}
 use Rattle.sv_base.specs.declared.names.Name.{Name}
 use Rattle.sv_base.specs.declared.span.Span.{Span}
 use Rattle.sv_scopes.specs.declared.words.Binding.TheVariants.{Local}

@@ -3,3 +3,4 @@ pub mod Files
 pub mod Markup
 pub mod Parts
 pub mod Script
+pub mod Rows

@@ -1,10 +1,9 @@
 -- What is found in expressions and statements. A scope is a function or an arrow with its parameters and body, another block,
 -- or a `for` with its head.
-use Rattle.std.specs.Prelude.{Bool, true, false, List, [], ◌∷◌, ◌++◌, Option, None, Some, map, option_map, if◌then◌else◌}
+use Rattle.std.specs.Prelude.{Bool, false, List, [], ◌∷◌, ◌++◌, Option, map, option_map, if◌then◌else◌}
 use Rattle.std.specs.Option.{option_to_list}
 use Rattle.sv_ast.specs.declared.names.Named.{Named}
 use Rattle.sv_ast.specs.declared.names.Ref.{Ref}
-use Rattle.sv_ast.specs.declared.names.Ref.TheVariants.{Plain}
 use Rattle.sv_ast.specs.declared.script_tree.Arm.{Arm, Arm-F, fold-Arm}
 use Rattle.sv_ast.specs.declared.script_tree.Body.{Body, Body-F, fold-Body}
 use Rattle.sv_ast.specs.declared.script_tree.Decl.{Decl, Decl-F, fold-Decl}

@@ -83,8 +83,9 @@ fn is_let(attr: &TagAttr) -> bool
     matches!(attr.kind, AttrKind::Let)
 }
 
-/// Whether a tag has a `slot` attribute.
-pub(crate) fn is_slotted(attrs: &[TagAttr]) -> bool
+/// Whether a tag has a `slot` attribute, so that it is a part of its own of the content of a component (Svelte 4 docs,
+/// '`<slot name="name">`').
+pub fn is_slotted(attrs: &[TagAttr]) -> bool
     ensures { result ≡ spec.is_slotted attrs.now }
 {
     attrs.iter().any(|attr| matches!(attr.kind, AttrKind::Slot))

@@ -5,6 +5,7 @@ mod attributes;
 mod declare;
 mod file;
 mod found;
+mod local_names;
 mod markup;
 mod script;
 #[cfg(test)]
@@ -12,5 +13,7 @@ mod tests;
 mod top;
 mod words;
 
+pub use attributes::is_slotted;
 pub use file::{scopes_of_component, scopes_of_module};
+pub use local_names::{let_names, row_names};
 pub use words::{Binding, Declared, FileScopes, Form, Role, Scope, Use, VIEW};

@@ -1,6 +1,7 @@
 // The scopes of small files, and what each declares and uses.
 use crate::{
-    Binding, FileScopes, Form, Role, Scope, Use, VIEW, scopes_of_component, scopes_of_module,
+    Binding, FileScopes, Form, Role, Scope, Use, VIEW, let_names, row_names, scopes_of_component,
+    scopes_of_module,
 };
 use std::alloc::{AllocError, Global};
 use std::test::Fail;
@@ -433,5 +434,21 @@ fn a_slot_uses_the_view(rt: HostRuntime) -> Result<(), Fail> {
     assert_eq!(rt; uses.len(), 2);
     assert_eq!(rt; uses[0].name, VIEW);
     assert_eq!(rt; uses[0].span.from, 7);
+    Ok(())
+}
+
+#[test]
+fn tags_and_rows_tell_their_names(rt: HostRuntime) -> Result<(), Fail> {
+    let alloc = rt.alloc();
+    let mut attrs = Attrs::new(alloc);
+    attrs.push(bare(AttrKind::Let, A))?;
+    attrs.push(valued(alloc, AttrKind::Let, C, read(B))?)?;
+    attrs.push(bare(AttrKind::Class, X))?;
+    let lets = let_names(alloc, attrs.as_slice())?;
+    assert!(rt; lets.has(Ref::Plain(A)) && lets.has(Ref::Plain(B)));
+    assert_eq!(rt; lets.len(), 2);
+    let row = row_names(alloc, &named(A), &Some(named(B)))?;
+    assert!(rt; row.has(Ref::Plain(A)) && row.has(Ref::Plain(B)));
+    assert_eq!(rt; row.len(), 2);
     Ok(())
 }
