@@ -1,42 +1,66 @@
--- The line and the column of a place, by a search among the places where lines begin.
-use Rattle.std.proofs.Common.{◌≡◌, ◌<◌, ◌≤◌, ℕ, ◌+◌, ◌-◌, List, ◌∷◌, ◌++◌, length, get_or, take, drop, Bool, true, false, refl, ap, sym, ◌∙◌, inl, inr, arith, length-append, leb, le-leb, min, subst}
+-- The line and the column of a place, by the lines that have begun.
+use Rattle.std.proofs.Common.{◌≡◌, ◌<◌, ◌≤◌, ℕ, ◌+◌, ◌-◌, List, [], ◌∷◌, ◌++◌, length, get_or, take, drop, true, false, refl, ap, sym, ◌∙◌, arith, leb, le-leb, append-nil}
 use Rattle.std.specs.List.{All}
-use Rattle.std.specs.List.Sorted.{IsPartitionedBy, IsPartitionPoint}
-use Rattle.std.proofs.lemmas.Bool.{cases_lt, lt-leb}
-use Rattle.std.proofs.lemmas.List.Elements.{All-weaker}
-use Rattle.std.proofs.lemmas.List.{get_or_append_left, get_or-append_right, take-append-drop, length-take-le}
-use Rattle.std.proofs.lemmas.List.Sums.{count_by-le-length}
-use Rattle.sv_base.specs.Place.{is_line_feed, line_of, column_of}
-use Rattle.sv_load.specs.Lines.{behind_feeds, line_starts}
+use Rattle.std.proofs.lemmas.Bool.{lt-leb}
+use Rattle.std.proofs.lemmas.List.Elements.{All-head, All-tail, filter-append}
+use Rattle.std.proofs.lemmas.List.{take-append-drop, take_more, length-take-le, length_push}
+use Rattle.sv_base.specs.Place.{line_of, column_of}
+use Rattle.sv_load.specs.Lines.{behind_feeds, line_starts, begun, last_start, line_in, column_in, IsPlace}
 use Rattle.sv_load.proofs.Starts.{behind_feeds-append, behind_feeds-above, up_to, length-last_line}
 
-true-false : {P : Type 0} (t : Bool) → t ≡ true → t ≡ false → P
-true-false t pass fail = cc
+-- ---- the lines that have begun, one more at a time
 
--- what passes stands before what does not
-pub IsPartitionedBy-append : (p : ℕ → Bool) (a b : List ℕ) → All (λ x. p x ≡ true) a → All (λ x. p x ≡ false) b → IsPartitionedBy p (a ++ b)
-IsPartitionedBy-append p a b pass fail i j d order within passes = elim (cases_lt i (length a)) [
-  | inl low ↦ ap p (get_or_append_left a b d i low) ∙ pass i d low
-  | inr high ↦
-      let size = length-append a b in
-      true-false (p (get_or (a ++ b) j d)) passes (ap p (get_or-append_right a b (length a) j d refl (omega arith)) ∙ fail (j - length a) d (omega arith))
-]
+pub last_start-push : (starts : List ℕ) (start : ℕ) → last_start (starts ++ start ∷ []) ≡ start
+last_start-push [] start = refl
+last_start-push (s ∷ []) start = refl
+last_start-push (s ∷ t ∷ starts) start = last_start-push (t ∷ starts) start
 
--- so the place between them is one
-pub partition_point-append : (p : ℕ → Bool) (a b : List ℕ) (n : ℕ) → All (λ x. p x ≡ true) a → All (λ x. p x ≡ false) b → n ≤ length (a ++ b)
-    → IsPartitionPoint (λ y. p y ≡ true) (λ y. p y ≡ false) (a ++ b) n → n ≡ length a
-partition_point-append p a b n pass fail within point = elim (cases_lt n (length a)) [
-  | inl low ↦
-      let size = length-append a b in
-      true-false (p (get_or (a ++ b) n 0)) (ap p (get_or_append_left a b 0 n low) ∙ pass n 0 low) (point.1 n 0 (omega arith) (omega arith))
-  | inr high ↦ elim (cases_lt (length a) n) [
-    | inl above ↦
-        let size = length-append a b in
-        true-false (p (get_or (a ++ b) (length a) 0)) (point.0 (length a) 0 (omega arith) above)
-        (ap p (get_or-append_right a b (length a) (length a) 0 refl (omega arith)) ∙ fail (length a - length a) 0 (omega arith))
-    | inr below ↦ omega arith
-  ]
-]
+begun-push : (starts : List ℕ) (start at : ℕ) → begun (starts ++ start ∷ []) at ≡ begun starts at ++ begun (start ∷ []) at
+begun-push starts start at = filter-append (λ s. leb s at) starts (start ∷ [])
+
+begun-one : (start at : ℕ) → leb start at ≡ true → begun (start ∷ []) at ≡ start ∷ []
+begun-one start at e = rw e refl
+
+begun-none : (start at : ℕ) → leb start at ≡ false → begun (start ∷ []) at ≡ []
+begun-none start at e = rw e refl
+
+-- a line that has begun is the last one
+pub begun-more : (starts : List ℕ) (at i start : ℕ) → i < length starts → start ≡ get_or starts i 0 → start ≤ at
+    → begun (take (i + 1) starts) at ≡ begun (take i starts) at ++ start ∷ []
+begun-more starts at i start h is low =
+    ap (λ l. begun l at) (take_more starts i 0 h) ∙ begun-push (take i starts) (get_or starts i 0) at
+    ∙ ap (λ s. begun (take i starts) at ++ begun (s ∷ []) at) (sym is)
+    ∙ ap (λ l. begun (take i starts) at ++ l) (begun-one start at (le-leb start at low))
+
+-- another changes nothing
+pub begun-same : (starts : List ℕ) (at i start : ℕ) → i < length starts → start ≡ get_or starts i 0 → at < start
+    → begun (take (i + 1) starts) at ≡ begun (take i starts) at
+begun-same starts at i start h is above =
+    ap (λ l. begun l at) (take_more starts i 0 h) ∙ begun-push (take i starts) (get_or starts i 0) at
+    ∙ ap (λ s. begun (take i starts) at ++ begun (s ∷ []) at) (sym is)
+    ∙ ap (λ l. begun (take i starts) at ++ l) (begun-none start at (lt-leb start at above))
+    ∙ append-nil (begun (take i starts) at)
+
+-- the line that has begun is one more
+pub line_in-more : (starts : List ℕ) (at i line : ℕ) → i < length starts → get_or starts i 0 ≤ at → line ≡ line_in (take i starts) at
+    → line + 1 ≡ line_in (take (i + 1) starts) at
+line_in-more starts at i line h low was =
+    ap (λ n. n + 1) was ∙ sym (ap length (begun-more starts at i (get_or starts i 0) h refl low) ∙ length_push (begun (take i starts) at) (get_or starts i 0))
+
+pub last_start-more : (starts : List ℕ) (at i : ℕ) → i < length starts → get_or starts i 0 ≤ at
+    → get_or starts i 0 ≡ last_start (begun (take (i + 1) starts) at)
+last_start-more starts at i h low =
+    sym (ap last_start (begun-more starts at i (get_or starts i 0) h refl low) ∙ last_start-push (begun (take i starts) at) (get_or starts i 0))
+
+pub line_in-same : (starts : List ℕ) (at i line : ℕ) → i < length starts → at < get_or starts i 0 → line ≡ line_in (take i starts) at
+    → line ≡ line_in (take (i + 1) starts) at
+line_in-same starts at i line h above was = was ∙ sym (ap length (begun-same starts at i (get_or starts i 0) h refl above))
+
+pub last_start-same : (starts : List ℕ) (at i start : ℕ) → i < length starts → at < get_or starts i 0 → start ≡ last_start (begun (take i starts) at)
+    → start ≡ last_start (begun (take (i + 1) starts) at)
+last_start-same starts at i start h above was = was ∙ sym (ap last_start (begun-same starts at i (get_or starts i 0) h refl above))
+
+-- ---- the lines of a text
 
 -- the lines that begin up to a place, and those that begin behind it
 pub line_starts-split : (bytes : List ℕ) (at : ℕ) → at ≤ length bytes → line_starts bytes ≡ line_starts (take at bytes) ++ behind_feeds at (drop at bytes)
@@ -45,69 +69,45 @@ line_starts-split bytes at h =
     ap line_starts (sym (take-append-drop at bytes))
     ∙ ap (λ l. 0 ∷ l) (behind_feeds-append 0 (take at bytes) (drop at bytes) ∙ ap (λ n. behind_feeds 0 (take at bytes) ++ behind_feeds n (drop at bytes)) size)
 
--- a place that is no later passes the search
-passes_all : (at : ℕ) (starts : List ℕ) → All (λ s. s ≤ at) starts → All (λ s. leb s at ≡ true) starts
-passes_all at starts below = All-weaker (λ s. s ≤ at) (λ s. leb s at ≡ true) (λ s h. le-leb s at h) starts below
+begun-all : (starts : List ℕ) (at : ℕ) → All (λ s. s ≤ at) starts → begun starts at ≡ starts
+begun-all [] at below = refl
+begun-all (s ∷ starts) at below = rw (le-leb s at (All-head (λ s. s ≤ at) s starts below)) (ap (λ l. s ∷ l) (begun-all starts at (All-tail (λ s. s ≤ at) s starts below)))
 
-fails_all : (at : ℕ) (starts : List ℕ) → All (λ s. at < s) starts → All (λ s. leb s at ≡ false) starts
-fails_all at starts above = All-weaker (λ s. at < s) (λ s. leb s at ≡ false) (λ s h. lt-leb s at h) starts above
+begun-nothing : (starts : List ℕ) (at : ℕ) → All (λ s. at < s) starts → begun starts at ≡ []
+begun-nothing [] at above = refl
+begun-nothing (s ∷ starts) at above = rw (lt-leb s at (All-head (λ s. at < s) s starts above)) (begun-nothing starts at (All-tail (λ s. at < s) s starts above))
 
--- the places where lines begin are in order, seen from a place
-pub lines_parted : (bytes : List ℕ) (at : ℕ) → at ≤ length bytes → IsPartitionedBy (λ s. leb s at) (line_starts bytes)
-lines_parted bytes at h =
-    subst (λ (l : List ℕ). IsPartitionedBy (λ s. leb s at) l) (sym (line_starts-split bytes at h))
-    (IsPartitionedBy-append (λ s. leb s at) (line_starts (take at bytes)) (behind_feeds at (drop at bytes))
-    (passes_all at (line_starts (take at bytes)) (up_to bytes at h).below) (fails_all at (behind_feeds at (drop at bytes)) (behind_feeds-above at (drop at bytes))))
+begun-line_starts : (bytes : List ℕ) (at : ℕ) → at ≤ length bytes → begun (line_starts bytes) at ≡ line_starts (take at bytes)
+begun-line_starts bytes at h =
+    ap (λ l. begun l at) (line_starts-split bytes at h)
+    ∙ filter-append (λ s. leb s at) (line_starts (take at bytes)) (behind_feeds at (drop at bytes))
+    ∙ ap (λ l. l ++ begun (behind_feeds at (drop at bytes)) at) (begun-all (line_starts (take at bytes)) at (up_to bytes at h).below)
+    ∙ ap (λ l. line_starts (take at bytes) ++ l) (begun-nothing (behind_feeds at (drop at bytes)) at (behind_feeds-above at (drop at bytes)))
+    ∙ append-nil (line_starts (take at bytes))
 
--- the search finds how many lines begin up to a place
-pub lines_point : (bytes : List ℕ) (at n : ℕ) → at ≤ length bytes → n ≤ length (line_starts bytes)
-    → IsPartitionPoint (λ y. leb y at ≡ true) (λ y. leb y at ≡ false) (line_starts bytes) n → n ≡ length (line_starts (take at bytes))
-lines_point bytes at n h within point =
-    let split = line_starts-split bytes at h in
-    partition_point-append (λ s. leb s at) (line_starts (take at bytes)) (behind_feeds at (drop at bytes)) n
-    (passes_all at (line_starts (take at bytes)) (up_to bytes at h).below) (fails_all at (behind_feeds at (drop at bytes)) (behind_feeds-above at (drop at bytes)))
-    (subst (λ (l : List ℕ). n ≤ length l) split within)
-    (subst (λ (l : List ℕ). IsPartitionPoint (λ y. leb y at ≡ true) (λ y. leb y at ≡ false) l n) split point)
+last_start-get : (start : ℕ) (starts : List ℕ) → last_start (start ∷ starts) ≡ get_or (start ∷ starts) (length starts) 0
+last_start-get start [] = refl
+last_start-get start (s ∷ starts) = last_start-get s starts
 
--- so it finds the line
-pub line-found : (bytes : List ℕ) (at n : ℕ) → at ≤ length bytes → n ≤ length (line_starts bytes)
-    → IsPartitionPoint (λ y. leb y at ≡ true) (λ y. leb y at ≡ false) (line_starts bytes) n → n ≡ line_of bytes at
-line-found bytes at n h within point = lines_point bytes at n h within point ∙ (up_to bytes at h).count
+-- the lines that have begun tell the line of a place
+pub line_in-text : (bytes : List ℕ) (at : ℕ) → at ≤ length bytes → line_in (line_starts bytes) at ≡ line_of bytes at
+line_in-text bytes at h = ap length (begun-line_starts bytes at h) ∙ (up_to bytes at h).count
 
--- and the last of them gives the column
-pub column-found : (bytes : List ℕ) (at n start : ℕ) → at ≤ length bytes → n ≤ length (line_starts bytes)
-    → IsPartitionPoint (λ y. leb y at ≡ true) (λ y. leb y at ≡ false) (line_starts bytes) n → start ≡ get_or (line_starts bytes) (n - 1) 0
-    → at - start + 1 ≡ column_of bytes at
-column-found bytes at n start h within point is =
-    let starts : List ℕ = line_starts (take at bytes) in
-    let got = up_to bytes at h in
-    let count = lines_point bytes at n h within point in
-    let some : 1 ≤ length starts = omega arith in
-    let low : n - 1 < length starts = omega arith in
-    let first : get_or (line_starts bytes) (n - 1) 0 ≡ get_or starts (n - 1) 0 =
-    ap (λ l. get_or l (n - 1) 0) (line_starts-split bytes at h) ∙ get_or_append_left starts (behind_feeds at (drop at bytes)) 0 (n - 1) low in
-    let same : get_or starts (n - 1) 0 ≡ get_or starts (length starts - 1) 0 = ap (λ k. get_or starts (k - 1) 0) count in
+-- and its column
+pub column_in-text : (bytes : List ℕ) (at : ℕ) → at ≤ length bytes → column_in (line_starts bytes) at ≡ column_of bytes at
+column_in-text bytes at h =
+    let more : List ℕ = behind_feeds 0 (take at bytes) in
+    let last = ap last_start (begun-line_starts bytes at h) ∙ last_start-get 0 more in
+    let end : length more ≡ length (line_starts (take at bytes)) - 1 = omega arith in
+    let same : get_or (line_starts (take at bytes)) (length more) 0 ≡ get_or (line_starts (take at bytes)) (length (line_starts (take at bytes)) - 1) 0 = ap (λ n. get_or (line_starts (take at bytes)) n 0) end in
+    let was = (up_to bytes at h).last in
     let long = length-last_line (take at bytes) in
-    let last = got.last in
     omega arith
 
--- the search of a slice that holds the lines
-pub found : (bytes xs : List ℕ) (at n : ℕ) → xs ≡ line_starts bytes → at ≤ length bytes → n ≤ length xs
-    → (IsPartitionedBy (λ s. leb s at) xs → IsPartitionPoint (λ y. leb y at ≡ true) (λ y. leb y at ≡ false) xs n)
-    → (n ≡ line_of bytes at) × ((start : ℕ) → start ≡ get_or xs (n - 1) 0 → at - start + 1 ≡ column_of bytes at)
-found bytes xs at n same h within search_ =
-    let point = subst (λ (l : List ℕ). IsPartitionPoint (λ y. leb y at ≡ true) (λ y. leb y at ≡ false) l n) same
-    (search_ (subst (λ (l : List ℕ). IsPartitionedBy (λ s. leb s at) l) (sym same) (lines_parted bytes at h))) in
-    let few = subst (λ (l : List ℕ). n ≤ length l) same within in
-    (line-found bytes at n h few point, λ start is. column-found bytes at n start h few point (is ∙ ap (λ l. get_or l (n - 1) 0) same))
-
-pub line_fits : (bytes : List ℕ) (at n result : ℕ) → at ≤ length bytes → length bytes < 4294967295 → n ≡ line_of bytes at → result ≡ min n 4294967295
-    → result ≡ line_of bytes at
-line_fits bytes at n result h short line is =
-    let few = count_by-le-length is_line_feed (take at bytes) in
-    let size = length-take-le at bytes h in
-    omega arith
-
-pub column_fits : (bytes : List ℕ) (at start behind result : ℕ) → at ≤ length bytes → length bytes < 4294967295 → at - start + 1 ≡ column_of bytes at
-    → behind ≡ at - start → result ≡ min (behind + 1) 4294967295 → result ≡ column_of bytes at
-column_fits bytes at start behind result h short column far is = omega arith
+-- where a text has its lines, they tell the line and the column of its places
+pub IsPlace-lines : (bytes starts : List ℕ) (at line start : ℕ) → line ≡ line_in starts at → start ≡ last_start (begun starts at) → starts ≡ line_starts bytes → at ≤ length bytes
+    → IsPlace bytes at (line, at - start + 1)
+IsPlace-lines bytes starts at line start l s is h = record {
+  line = l ∙ ap (λ x. line_in x at) is ∙ line_in-text bytes at h;
+  column = ap (λ n. at - n + 1) s ∙ ap (λ x. column_in x at) is ∙ column_in-text bytes at h;
+}

@@ -1,7 +1,7 @@
 // Where lines begin, and the line and the column of a place.
 ghost use Rattle.std.specs.Prelude.{◌≡◌, ◌<◌, ◌≤◌, ℕ, List, length, IfOk};
-ghost use Rattle.sv_base.specs.Place.{line_of, column_of};
 ghost use Rattle.sv_load.specs.Lines as spec;
+ghost use Rattle.sv_load.specs.Lines.{IsPlace};
 
 use std::alloc::Global;
 use sv_ast::LineStarts;
@@ -26,16 +26,19 @@ pub fn line_starts(alloc: Global, bytes: &[u8]) -> Result<LineStarts, NoMemory>
 }
 
 /// The line of the place `at` and its column in bytes, both from 1, in a file whose lines begin at these places. LF alone
-/// ends a line. Nothing is said of what is no place of the file.
-pub fn place_of(lines: &LineStarts, at: u32) -> (u32, u32)
-    ensures line { (bytes : List ℕ) → lines.now ≡ spec.line_starts bytes → at ≤ length bytes → length bytes < TEXT_LIMIT → result.0 ≡ line_of bytes at }
-    ensures column { (bytes : List ℕ) → lines.now ≡ spec.line_starts bytes → at ≤ length bytes → length bytes < TEXT_LIMIT → result.1 ≡ column_of bytes at }
+/// ends a line. Behind the end of the file the columns of its last line go on.
+pub fn place_of(lines: &LineStarts, at: u32) -> (usize, usize)
+    ensures line { result.0 ≡ spec.line_in lines.now at }
+    ensures column { result.1 ≡ spec.column_in lines.now at }
+    ensures in_text { (bytes : List ℕ) → lines.now ≡ spec.line_starts bytes → at ≤ length bytes → IsPlace bytes at result }
 {
-    let starts = lines.as_slice();
-    let line = starts.partition_point(|start| *start <= at);
-    let last = line.saturating_sub(1);
-    let start = starts.get(last).copied().unwrap_or(0);
-    let behind = at.saturating_sub(start);
-    let column = behind.saturating_add(1);
-    (line.min(TEXT_LIMIT) as u32, column)
+    let mut line = 0;
+    let mut start = 0;
+    for begin in lines.as_slice() {
+        if *begin <= at {
+            line += 1;
+            start = *begin;
+        }
+    }
+    (line, (at - start) as usize + 1)
 }

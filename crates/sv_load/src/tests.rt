@@ -222,7 +222,8 @@ fn a_place_is_told_by_the_lines(rt: HostRuntime) -> Result<(), Fail> {
     let lines = &files[0].lines;
     assert_eq!(rt; lines.as_slice(), [0, 4, 5, 11].as_slice());
     for at in 0..12 {
-        assert_eq!(rt; place_of(lines, at), line_col(text.as_bytes(), at));
+        let (line, column) = line_col(text.as_bytes(), at);
+        assert_eq!(rt; place_of(lines, at), (line as usize, column as usize));
     }
     Ok(())
 }
