@@ -1,0 +1,5 @@
+pub mod Imports
+pub mod Cycles
+pub mod Table
+pub mod Given
+pub mod Unknown

@@ -1,0 +1,16 @@
+//! What the files of a program import from one another, and the mistakes in it: circles of imports, and names that nothing gives.
+#![tactic(auto)]
+
+mod cycles;
+mod files;
+mod given;
+mod origin;
+#[cfg(test)]
+mod tests;
+mod unknown;
+mod words;
+
+pub use cycles::import_cycles;
+pub use files::{file_named, statements_of};
+pub use unknown::unknown_imports;
+pub use words::is_life_function;

@@ -1,0 +1,35 @@
+// What an import takes its names from.
+ghost use Rattle.std.specs.Prelude.{◌≡◌};
+ghost use Rattle.sv_imports.specs.Unknown as spec;
+
+use crate::files::file_named;
+use sv_ast::SourceFile;
+
+/// What an import takes its names from.
+#[derive(Clone, Copy)]
+pub(crate) enum Origin {
+    /// `svelte`.
+    Life,
+    /// `svelte/store`.
+    Stores,
+    /// A file, by its place among the files.
+    File(usize),
+    /// No file that is there.
+    Nowhere,
+}
+
+/// What an import from this text takes its names from.
+pub(crate) fn origin_of(files: &[SourceFile], from: &str) -> Origin
+    ensures { result ≡ spec.origin_of files.now from.now }
+{
+    if from == "svelte" {
+        return Origin::Life;
+    }
+    if from == "svelte/store" {
+        return Origin::Stores;
+    }
+    match file_named(files, from) {
+        Some(file) => Origin::File(file),
+        None => Origin::Nowhere,
+    }
+}
