@@ -1,0 +1,4 @@
+pub mod Words
+pub mod Attributes
+pub mod Sites
+pub mod Hidden
