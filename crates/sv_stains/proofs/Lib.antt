@@ -1,0 +1,9 @@
+pub mod Bounding
+pub mod Calling
+pub mod Declared
+pub mod Knowing
+pub mod Loops
+pub mod Owning
+pub mod Spoiling
+pub mod Staining
+pub mod Topping

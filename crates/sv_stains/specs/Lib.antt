@@ -1,0 +1,6 @@
+pub mod Calls
+pub mod Functions
+pub mod Known
+pub mod Signs
+pub mod Stains
+pub mod Top

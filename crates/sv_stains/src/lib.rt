@@ -1,0 +1,16 @@
+//! Which functions of a program are pure, so that markup may call them: those from which no chain of calls leads to a body that
+//! reads a variable or changes something.
+#![tactic(auto)]
+
+mod bundle;
+mod functions;
+mod known;
+mod locals;
+mod notes;
+mod signs;
+mod stains;
+#[cfg(test)]
+mod tests;
+mod top;
+
+pub use bundle::pure_functions;
