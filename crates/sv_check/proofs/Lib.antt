@@ -1,0 +1,7 @@
+pub mod Joined
+pub mod Once
+pub mod Waits
+pub mod Unique
+pub mod OneMistake
+pub mod Whole
+pub mod Progress

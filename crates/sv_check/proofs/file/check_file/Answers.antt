@@ -1,0 +1,15 @@
+use Rattle.std.proofs.Common.{sym, subst, ◌∙◌}
+use Rattle.sv_order.specs.ReactiveOrder.{IsOrder}
+use Rattle.sv_resolve.specs.declared.refusals.CheckKind.TheVariants.{ReactiveCycle}
+use Rattle.sv_check.specs.Waiting.{reads}
+use Rattle.sv_check.proofs.Whole.{none_wait, none_first}
+use Rattle.sv_check.proofs.file.check_file.Goals as goal
+
+pub returns-clause-checked : goal.returns-clause-checked
+returns-clause-checked c =
+    let none = none_first c.in_ok-first.field-0 _ c.in-None.is c.in_ok-first.ensures in
+    let order = c.in_ok-run.ensures.order (sym c.as_slice-waiting.ensures ∙ none_wait ReactiveCycle _ c.as_slice-waiting.result.now none) in
+    record {
+      scopes_are = c.in_ok-told_scopes-in-None.ensures;
+      order_is = subst (λ stmts. IsOrder (reads stmts) c.in_ok-run.run'.order.items) c.statements_of.ensures order;
+    }

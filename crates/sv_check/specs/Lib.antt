@@ -1,0 +1,9 @@
+pub mod Files
+pub mod Stores
+pub mod Life
+pub mod Cells
+pub mod Waiting
+pub mod Mistakes
+pub mod First
+pub mod Found
+pub mod Checked
