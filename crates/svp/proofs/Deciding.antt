@@ -1,10 +1,18 @@
 -- What has been learned of the files, and what it calls for.
-use Rattle.std.proofs.Common.{◌≡◌, ℕ, List, Option, refl}
-use Rattle.std.specs.Prelude.{Some, None, IfSome}
+use Rattle.std.proofs.Common.{◌≡◌, ◌<◌, ℕ, List, length, Option, refl, sym, ap, subst, ◌∙◌}
+use Rattle.std.specs.Prelude.{Some, None, Result, Ok, Err, IfOk, IfSome, slice_get}
+use Rattle.std.proofs.lemmas.Option.{none-some, slice_get_within}
+use Rattle.sv_ast.specs.declared.files.Bundle.{Bundle}
+use Rattle.sv_ast.specs.declared.files.SourceFile.{SourceFile}
+use Rattle.sv_check.specs.Checked.{IsFirstMistake, IsClean}
 use Rattle.sv_io.specs.Files.{Files}
-use Rattle.svp.specs.Answer.{usage, missing, source, events, turns, Fault, Found, nothing, refused, holding, IsProgram, AreEvents, IsAnswer, no_form, no_program, bad_program, no_events, bad_events, plays}
+use Rattle.sv_load.specs.Loads.{Loads, Reads, nothing as no_files}
+use Rattle.sv_load.specs.declared.refusals.LoadError.{LoadError}
+use Rattle.sv_load.specs.declared.refusals.LoadError.TheVariants as load
+use Rattle.sv_resolve.specs.declared.refusals.CheckRefusal.{CheckRefusal}
+use Rattle.svp.specs.Answer.{Answer, usage, missing, source, events, turns, accepted, Fault, fault_text, Found, nothing, refused, holding, IsProgram, AreEvents, IsPlayed, no_program, bad_program, no_events, bad_events, plays, load_answer, mistake_answer, IsChecked, not_loaded, mistaken, clean, IsAnswer, no_form, runs, checks}
 use Rattle.svp.specs.Form.{Form}
-use Rattle.svp.specs.Words.{IsRun, IsNoForm}
+use Rattle.svp.specs.Words.{IsRun, IsCheck, IsNoForm}
 
 -- what holds of every value holds of the one that is told
 pub told : {T : Type 0} (o : Option T) {P : T → Type 0} → ((x : T) → o ≡ Some x → P x) → IfSome o P
@@ -19,41 +27,92 @@ pub some_both : {T : Type 0} (o : Option T) {P Q R : T → Type 0} → ((x : T) 
 some_both None f p q = tt
 some_both (Some x) f p q = f x p q
 
--- each cause calls for its answer, where the files are told
+pub ok_weaker : {A E : Type 0} (r : Result A E) {P Q : A → Type 0} → ((x : A) → P x → Q x) → IfOk r P → IfOk r Q
+ok_weaker (Ok x) f p = f x p
+ok_weaker (Err e) f p = tt
+
+-- ---- `run ROOT EVENTS`: each cause calls for its answer, where the files are told
+
+pub calls-no_program : (o : Option Files) (root file name : List ℕ) (found : Found Form) → name ≡ root → found ≡ nothing
+    → IfSome o (λ files. IsProgram files root found) → IfSome o (λ files. IsPlayed files root file (missing name))
+calls-no_program o root file name found same is = some_weaker o (λ files program.
+    let program' : IsProgram files root nothing = rw is at program in rw same (no_program program'))
+
+pub calls-bad_program : (o : Option Files) (root file name word : List ℕ) (found : Found Form) (fault : Fault) → name ≡ root → word ≡ fault_text fault → found ≡ refused fault
+    → IfSome o (λ files. IsProgram files root found) → IfSome o (λ files. IsPlayed files root file (source name word))
+calls-bad_program o root file name word found fault same text is = some_weaker o (λ files program.
+    let program' : IsProgram files root (refused fault) = rw is at program in rw (same, text) (bad_program fault program'))
+
+pub calls-no_events : (o : Option Files) (root file name : List ℕ) (found : Found Form) (form : Form) (clicks : Found (List (List ℕ)))
+    → name ≡ file → found ≡ holding form → clicks ≡ nothing
+    → IfSome o (λ files. IsProgram files root found) → IfSome o (λ files. AreEvents files file clicks) → IfSome o (λ files. IsPlayed files root file (missing name))
+calls-no_events o root file name found form clicks same is none = some_both o (λ files program found_events.
+    let program' : IsProgram files root (holding form) = rw is at program in
+    let clicks' : AreEvents files file nothing = rw none at found_events in
+    rw same (no_events form program' clicks'))
+
+pub calls-bad_events : (o : Option Files) (root file : List ℕ) (found : Found Form) (form : Form) (clicks : Found (List (List ℕ))) (fault : Fault)
+    → found ≡ holding form → clicks ≡ refused fault
+    → IfSome o (λ files. IsProgram files root found) → IfSome o (λ files. AreEvents files file clicks) → IfSome o (λ files. IsPlayed files root file (events fault))
+calls-bad_events o root file found form clicks fault is bad = some_both o (λ files program found_events.
+    let program' : IsProgram files root (holding form) = rw is at program in
+    let events' : AreEvents files file (refused fault) = rw bad at found_events in
+    bad_events form fault program' events')
+
+pub calls-plays : (o : Option Files) (root file : List ℕ) (found : Found Form) (form : Form) (clicks : Found (List (List ℕ))) (ids : List (List ℕ))
+    → found ≡ holding form → clicks ≡ holding ids
+    → IfSome o (λ files. IsProgram files root found) → IfSome o (λ files. AreEvents files file clicks) → IfSome o (λ files. IsPlayed files root file (turns form ids))
+calls-plays o root file found form clicks ids is read = some_both o (λ files program found_events.
+    let program' : IsProgram files root (holding form) = rw is at program in
+    let events' : AreEvents files file (holding ids) = rw read at found_events in
+    plays form ids program' events')
+
+-- ---- `check ROOT`
+
+-- what isn't loaded for a cause of its own
+reads_of : (files : Files) (root : List ℕ) (error : LoadError) (answer : Answer) → load_answer error ≡ Some answer → Loads files root (Err error)
+    → Reads files root no_files (Err error)
+reads_of files root (load.Missing name) answer is loads = loads
+reads_of files root (load.TooLong name) answer is loads = loads
+reads_of files root (load.TooMany name) answer is loads = loads
+reads_of files root (load.Refused name kind line column) answer is loads = loads
+reads_of files root load.Failed answer is loads = absurd (none-some answer is)
+reads_of files root load.NoMemory answer is loads = absurd (none-some answer is)
+
+pub calls-not_loaded : (o : Option Files) (root : List ℕ) (error : LoadError) (answer : Answer) → load_answer error ≡ Some answer
+    → IfSome o (λ files. Loads files root (Err error)) → IfSome o (λ files. IsChecked files root answer)
+calls-not_loaded o root error answer is = some_weaker o (λ files loads. not_loaded error answer (reads_of files root error answer is loads) is)
+
+pub calls-clean : (o : Option Files) (root : List ℕ) (bundle : Bundle) → IsClean bundle → IfSome o (λ files. Loads files root (Ok bundle))
+    → IfSome o (λ files. IsChecked files root accepted)
+calls-clean o root bundle is = some_weaker o (λ files loads. clean bundle loads is)
+
+-- the file of a mistake is there
+pub file_of_mistake : (bundle : Bundle) (m : CheckRefusal) → IsFirstMistake bundle m → (file : SourceFile) × (slice_get bundle.files m.at.file ≡ Some file)
+file_of_mistake bundle m is =
+    let at = is.is_first.are_mistakes in
+    (at.source, ap (λ x. slice_get bundle.files x.at.file) is.is_first.told ∙ at.there)
+
+pub file_within : (bundle : Bundle) (m : CheckRefusal) → IsFirstMistake bundle m → m.at.file < length bundle.files
+file_within bundle m is =
+    let there = file_of_mistake bundle m is in slice_get_within bundle.files m.at.file there.0 there.1
+
+pub calls-mistaken : (o : Option Files) (root : List ℕ) (bundle : Bundle) (m : CheckRefusal) (answer : Answer) → IsFirstMistake bundle m
+    → ((file : SourceFile) → slice_get bundle.files m.at.file ≡ Some file → answer ≡ mistake_answer file m)
+    → IfSome o (λ files. Loads files root (Ok bundle)) → IfSome o (λ files. IsChecked files root answer)
+calls-mistaken o root bundle m answer is told = some_weaker o (λ files loads.
+    let there = file_of_mistake bundle m is in
+    subst (IsChecked files root) (sym (told there.0 there.1)) (mistaken bundle m there.0 loads is there.1))
+
+-- ---- all words
 
 pub calls-usage : (o : Option Files) (words : List (List ℕ)) → IsNoForm words → IfSome o (λ files. IsAnswer words files usage)
 calls-usage o words none = told o (λ files is. no_form none)
 
-pub calls-no_program : (o : Option Files) (words : List (List ℕ)) (root file name : List ℕ) (found : Found Form) → IsRun words root file → name ≡ root
-    → found ≡ nothing → IfSome o (λ files. IsProgram files root found) → IfSome o (λ files. IsAnswer words files (missing name))
-calls-no_program o words root file name found run same is = some_weaker o (λ files program.
-    let program' : IsProgram files root nothing = rw is at program in rw same (no_program root file run program'))
+pub calls-run : (o : Option Files) (words : List (List ℕ)) (root file : List ℕ) (answer : Answer) → IsRun words root file
+    → IfSome o (λ files. IsPlayed files root file answer) → IfSome o (λ files. IsAnswer words files answer)
+calls-run o words root file answer run = some_weaker o (λ files played. runs root file answer run played)
 
-pub calls-bad_program : (o : Option Files) (words : List (List ℕ)) (root file name : List ℕ) (found : Found Form) (fault : Fault) → IsRun words root file → name ≡ root
-    → found ≡ refused fault → IfSome o (λ files. IsProgram files root found) → IfSome o (λ files. IsAnswer words files (source name fault))
-calls-bad_program o words root file name found fault run same is = some_weaker o (λ files program.
-    let program' : IsProgram files root (refused fault) = rw is at program in rw same (bad_program root file fault run program'))
-
-pub calls-no_events : (o : Option Files) (words : List (List ℕ)) (root file name : List ℕ) (found : Found Form) (form : Form) (clicks : Found (List (List ℕ)))
-    → IsRun words root file → name ≡ file → found ≡ holding form → clicks ≡ nothing
-    → IfSome o (λ files. IsProgram files root found) → IfSome o (λ files. AreEvents files file clicks) → IfSome o (λ files. IsAnswer words files (missing name))
-calls-no_events o words root file name found form clicks run same is none = some_both o (λ files program found_events.
-    let program' : IsProgram files root (holding form) = rw is at program in
-    let clicks' : AreEvents files file nothing = rw none at found_events in
-    rw same (no_events root file form run program' clicks'))
-
-pub calls-bad_events : (o : Option Files) (words : List (List ℕ)) (root file : List ℕ) (found : Found Form) (form : Form) (clicks : Found (List (List ℕ))) (fault : Fault)
-    → IsRun words root file → found ≡ holding form → clicks ≡ refused fault
-    → IfSome o (λ files. IsProgram files root found) → IfSome o (λ files. AreEvents files file clicks) → IfSome o (λ files. IsAnswer words files (events fault))
-calls-bad_events o words root file found form clicks fault run is bad = some_both o (λ files program found_events.
-    let program' : IsProgram files root (holding form) = rw is at program in
-    let events' : AreEvents files file (refused fault) = rw bad at found_events in
-    bad_events root file form fault run program' events')
-
-pub calls-plays : (o : Option Files) (words : List (List ℕ)) (root file : List ℕ) (found : Found Form) (form : Form) (clicks : Found (List (List ℕ))) (ids : List (List ℕ))
-    → IsRun words root file → found ≡ holding form → clicks ≡ holding ids
-    → IfSome o (λ files. IsProgram files root found) → IfSome o (λ files. AreEvents files file clicks) → IfSome o (λ files. IsAnswer words files (turns form ids))
-calls-plays o words root file found form clicks ids run is read = some_both o (λ files program found_events.
-    let program' : IsProgram files root (holding form) = rw is at program in
-    let events' : AreEvents files file (holding ids) = rw read at found_events in
-    plays root file form ids run program' events')
+pub calls-check : (o : Option Files) (words : List (List ℕ)) (root : List ℕ) (answer : Answer) → IsCheck words root
+    → IfSome o (λ files. IsChecked files root answer) → IfSome o (λ files. IsAnswer words files answer)
+calls-check o words root answer check = some_weaker o (λ files checked. checks root answer check checked)

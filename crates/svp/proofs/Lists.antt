@@ -9,3 +9,10 @@ three_words (x ∷ []) a b c low high p q r = absurd (omega arith)
 three_words (x ∷ y ∷ []) a b c low high p q r = absurd (omega arith)
 three_words (x ∷ y ∷ z ∷ []) a b c low high p q r = cc
 three_words (x ∷ y ∷ z ∷ w ∷ ws) a b c low high p q r = absurd (omega arith)
+
+-- and one of two
+pub two_words : {A : Type 0} (xs : List A) (a b : A) → 2 ≤ length xs → length xs < 3 → a ≡ get_or xs 0 a → b ≡ get_or xs 1 b → xs ≡ a ∷ b ∷ []
+two_words [] a b low high p q = absurd (omega arith)
+two_words (x ∷ []) a b low high p q = absurd (omega arith)
+two_words (x ∷ y ∷ []) a b low high p q = cc
+two_words (x ∷ y ∷ z ∷ zs) a b low high p q = absurd (omega arith)

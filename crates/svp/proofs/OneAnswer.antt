@@ -1,11 +1,17 @@
 -- No words and files call for two answers.
-use Rattle.std.proofs.Common.{◌≡◌, ◌<◌, ◌≤◌, ℕ, List, length, Option, refl, ap, sym, ◌∙◌, arith, inl, inr}
-use Rattle.std.specs.Prelude.{Some, None, ◌⊎◌}
+use Rattle.std.proofs.Common.{◌≡◌, ◌<◌, ◌≤◌, ℕ, List, length, Option, refl, ap, sym, subst, ◌∙◌, arith}
+use Rattle.std.specs.Prelude.{Some, None, Result, Ok, Err, slice_get}
+use Rattle.sv_ast.specs.declared.files.Bundle.{Bundle}
+use Rattle.sv_ast.specs.declared.files.SourceFile.{SourceFile}
+use Rattle.sv_check.specs.Checked.{IsFirstMistake, IsClean, IsOneMistake, IsMistakeOrClean}
 use Rattle.sv_io.specs.Files.{Files}
-use Rattle.svp.specs.Answer.{Answer, usage, missing, source, events, turns, too_long, not_built, Found, nothing, refused, holding, IsFound, IsProgram, AreEvents, IsAnswer, no_form, no_program, bad_program, no_events, bad_events, plays}
+use Rattle.sv_load.specs.Laws.{IsOneOutcome}
+use Rattle.sv_load.specs.declared.refusals.LoadError.{LoadError}
+use Rattle.sv_resolve.specs.declared.refusals.CheckRefusal.{CheckRefusal}
+use Rattle.svp.specs.Answer.{Answer, missing, source, events, turns, too_long, not_built, fault_text, Found, nothing, refused, holding, IsFound, IsProgram, AreEvents, IsPlayed, no_program, bad_program, no_events, bad_events, plays, load_answer, mistake_answer, IsChecked, not_loaded, mistaken, clean, IsAnswer, no_form, runs, checks}
 use Rattle.svp.specs.EventsFile.{Clicks}
 use Rattle.svp.specs.Form.{Form}
-use Rattle.svp.specs.Words.{IsRun, IsNoForm}
+use Rattle.svp.specs.Words.{IsRun, IsCheck}
 use Rattle.svp.proofs.Members.{clicks_injective}
 use Rattle.svp.proofs.Spelling.{Spells-unique}
 
@@ -44,34 +50,30 @@ IsFound-unique files name limit Holds one (holding x) (holding y) p q =
 -- the answer to what was found of the root file, and of the events file where there is a program
 abbrev answer_to : List ℕ → List ℕ → Found Form → Found (List (List ℕ)) → Answer
 answer_to root file nothing found = missing root
-answer_to root file (refused fault) found = source root fault
+answer_to root file (refused fault) found = source root (fault_text fault)
 answer_to root file (holding form) nothing = missing file
 answer_to root file (holding form) (refused fault) = events fault
 answer_to root file (holding form) (holding ids) = turns form ids
 
--- what was found, for an answer to words that are a form
-record Called (words : List (List ℕ)) (files : Files) (answer : Answer) : Type 0 where
-  root : List ℕ
-  file : List ℕ
+-- what was found, for an answer to `run ROOT EVENTS`
+record Played (files : Files) (root file : List ℕ) (answer : Answer) : Type 0 where
   program : Found Form
   found : Found (List (List ℕ))
-  run : IsRun words root file
   program_is : IsProgram files root program
   events_are : (form : Form) → program ≡ holding form → AreEvents files file found
   answer_is : answer ≡ answer_to root file program found
 
-called : (words : List (List ℕ)) (files : Files) (answer : Answer) → IsAnswer words files answer → ((answer ≡ usage) × IsNoForm words) ⊎ Called words files answer
-called words files _ (no_form none) = inl (refl, none)
-called words files _ (no_program root file run program) =
-    inr (record { root = root; file = file; program = nothing; found = nothing; run = run; program_is = program; events_are = λ form is. cc; answer_is = refl })
-called words files _ (bad_program root file fault run program) =
-    inr (record { root = root; file = file; program = refused fault; found = nothing; run = run; program_is = program; events_are = λ form is. cc; answer_is = refl })
-called words files _ (no_events root file form run program found) =
-    inr (record { root = root; file = file; program = holding form; found = nothing; run = run; program_is = program; events_are = λ form is. found; answer_is = refl })
-called words files _ (bad_events root file form fault run program found) =
-    inr (record { root = root; file = file; program = holding form; found = refused fault; run = run; program_is = program; events_are = λ form is. found; answer_is = refl })
-called words files _ (plays root file form ids run program found) =
-    inr (record { root = root; file = file; program = holding form; found = holding ids; run = run; program_is = program; events_are = λ form is. found; answer_is = refl })
+played : (files : Files) (root file : List ℕ) (answer : Answer) → IsPlayed files root file answer → Played files root file answer
+played files root file _ (no_program program) =
+    record { program = nothing; found = nothing; program_is = program; events_are = λ form is. cc; answer_is = refl }
+played files root file _ (bad_program fault program) =
+    record { program = refused fault; found = nothing; program_is = program; events_are = λ form is. cc; answer_is = refl }
+played files root file _ (no_events form program found) =
+    record { program = holding form; found = nothing; program_is = program; events_are = λ form is. found; answer_is = refl }
+played files root file _ (bad_events form fault program found) =
+    record { program = holding form; found = refused fault; program_is = program; events_are = λ form is. found; answer_is = refl }
+played files root file _ (plays form ids program found) =
+    record { program = holding form; found = holding ids; program_is = program; events_are = λ form is. found; answer_is = refl }
 
 -- the events matter only where there is a program
 answer_to-same : (root file : List ℕ) (program : Found Form) (f g : Found (List (List ℕ))) → ((form : Form) → program ≡ holding form → f ≡ g)
@@ -83,6 +85,61 @@ answer_to-same root file (holding form) f g same = ap (answer_to root file (hold
 Clicks-unique : (bytes : List ℕ) (a b : List (List ℕ)) → Clicks bytes a → Clicks bytes b → a ≡ b
 Clicks-unique bytes a b one other = clicks_injective a b (some-same _ _ _ one.reads other.reads)
 
+both_played : (files : Files) (root file : List ℕ) (a b : Answer) → Played files root file a → Played files root file b → a ≡ b
+both_played files root file a b one other =
+    let program = IsFound-unique files root _ _ Spells-unique one.program other.program one.program_is other.program_is in
+    let found : (form : Form) → one.program ≡ holding form → one.found ≡ other.found = λ form is.
+    IsFound-unique files file _ _ Clicks-unique one.found other.found (one.events_are form is) (other.events_are form (sym program ∙ is)) in
+    one.answer_is ∙ (answer_to-same root file one.program one.found other.found found ∙ rw program (sym other.answer_is))
+
+-- ---- `check ROOT`
+
+-- what holds of the crates below
+pub record Laws : Type 0 where
+  pub outcomes : IsOneOutcome
+  pub mistakes : IsOneMistake
+  pub cleans : IsMistakeOrClean
+
+-- the answer to what came of loading, where there is no program
+abbrev unloaded : Result Bundle LoadError → Option Answer
+unloaded (Ok bundle) = None
+unloaded (Err error) = load_answer error
+
+abbrev bundle_or : Bundle → Result Bundle LoadError → Bundle
+bundle_or other (Ok bundle) = bundle
+bundle_or other (Err error) = other
+
+loaded_or_not : {P : Type 0} (bundle : Bundle) (error : LoadError) (answer : Answer) → Err error ≡ Ok bundle → load_answer error ≡ Some answer → P
+loaded_or_not bundle error answer same is = none-some (unloaded (Ok bundle)) answer refl (sym (ap unloaded same) ∙ is)
+
+-- the answers for two mistakes of one bundle
+one_mistaken : (laws : Laws) (bundle : Bundle) (m n : CheckRefusal) (file other : SourceFile) → IsFirstMistake bundle m → IsFirstMistake bundle n
+    → slice_get bundle.files m.at.file ≡ Some file → slice_get bundle.files n.at.file ≡ Some other → mistake_answer file m ≡ mistake_answer other n
+one_mistaken laws bundle m n file other p q f g =
+    let same = laws.mistakes bundle m n p q in
+    let files = some-same (slice_get bundle.files n.at.file) file other (sym (ap (λ x. slice_get bundle.files x.at.file) same) ∙ f) g in
+    ap (mistake_answer file) same ∙ ap (λ x. mistake_answer x n) files
+
+IsChecked-unique : (laws : Laws) (files : Files) (root : List ℕ) (a b : Answer) → IsChecked files root a → IsChecked files root b → a ≡ b
+IsChecked-unique laws files root _ _ (not_loaded e a r s) (not_loaded f b r' s') =
+    some-same (load_answer f) a b (sym (ap unloaded (laws.outcomes files root (Err e) (Err f) r r')) ∙ s) s'
+IsChecked-unique laws files root _ _ (not_loaded e a r s) (mistaken bundle m file r' is at) = loaded_or_not bundle e a (laws.outcomes files root (Err e) (Ok bundle) r r') s
+IsChecked-unique laws files root _ _ (not_loaded e a r s) (clean bundle r' is) = loaded_or_not bundle e a (laws.outcomes files root (Err e) (Ok bundle) r r') s
+IsChecked-unique laws files root _ _ (mistaken bundle m file r is at) (not_loaded e a r' s) = loaded_or_not bundle e a (laws.outcomes files root (Err e) (Ok bundle) r' r) s
+IsChecked-unique laws files root _ _ (mistaken bundle m file r is at) (mistaken bundle' m' file' r' is' at') =
+    let same : bundle' ≡ bundle = ap (bundle_or bundle) (laws.outcomes files root (Ok bundle') (Ok bundle) r' r) in
+    one_mistaken laws bundle m m' file file' is (subst (λ z. IsFirstMistake z m') same is') at (subst (λ z. slice_get z.files m'.at.file ≡ Some file') same at')
+IsChecked-unique laws files root _ _ (mistaken bundle m file r is at) (clean bundle' r' is') =
+    let same : bundle' ≡ bundle = ap (bundle_or bundle) (laws.outcomes files root (Ok bundle') (Ok bundle) r' r) in
+    absurd (laws.cleans bundle m (subst IsClean same is') is)
+IsChecked-unique laws files root _ _ (clean bundle r is) (not_loaded e a r' s) = loaded_or_not bundle e a (laws.outcomes files root (Err e) (Ok bundle) r' r) s
+IsChecked-unique laws files root _ _ (clean bundle r is) (mistaken bundle' m file r' is' at) =
+    let same : bundle ≡ bundle' = ap (bundle_or bundle') (laws.outcomes files root (Ok bundle) (Ok bundle') r r') in
+    absurd (laws.cleans bundle' m (subst IsClean same is) is')
+IsChecked-unique laws files root _ _ (clean bundle r is) (clean bundle' r' is') = refl
+
+-- ---- all words
+
 root-same : (words : List (List ℕ)) (r f r' f' : List ℕ) → IsRun words r f → IsRun words r' f' → r ≡ r'
 root-same words r f r' f' one other =
     let a = one.form in
@@ -93,22 +150,28 @@ file-same words r f r' f' one other =
     let a = one.form in
     let b = other.form in cc
 
-both_called : (words : List (List ℕ)) (files : Files) (a b : Answer) → Called words files a → Called words files b → a ≡ b
-both_called words files a b one other =
-    let root = root-same words one.root one.file other.root other.file one.run other.run in
-    let file = file-same words one.root one.file other.root other.file one.run other.run in
-    let program_is : IsProgram files one.root other.program = rw root other.program_is in
-    let program = IsFound-unique files one.root _ _ Spells-unique one.program other.program one.program_is program_is in
-    let found : (form : Form) → one.program ≡ holding form → one.found ≡ other.found = λ form is.
-    let events_are : AreEvents files one.file other.found = rw file (other.events_are form (sym program ∙ is)) in
-    IsFound-unique files one.file _ _ Clicks-unique one.found other.found (one.events_are form is) events_are in
-    one.answer_is ∙ (answer_to-same one.root one.file one.program one.found other.found found ∙ rw (root, file, program) (sym other.answer_is))
+checked-same : (words : List (List ℕ)) (r r' : List ℕ) → IsCheck words r → IsCheck words r' → r ≡ r'
+checked-same words r r' one other =
+    let a = one.form in
+    let b = other.form in cc
 
-pub IsAnswer-unique : (words : List (List ℕ)) (files : Files) (a b : Answer) → IsAnswer words files a → IsAnswer words files b → a ≡ b
-IsAnswer-unique words files a b p q = by (called words files a p) (called words files b q)
-  where
-    by : ((a ≡ usage) × IsNoForm words) ⊎ Called words files a → ((b ≡ usage) × IsNoForm words) ⊎ Called words files b → a ≡ b
-    by (inl one) (inl other) = one.0 ∙ sym other.0
-    by (inl one) (inr other) = absurd (one.1 other.root other.file other.run)
-    by (inr one) (inl other) = absurd (other.1 one.root one.file one.run)
-    by (inr one) (inr other) = both_called words files a b one other
+run-or-check : {P : Type 0} (words : List (List ℕ)) (r f r' : List ℕ) → IsRun words r f → IsCheck words r' → P
+run-or-check words r f r' one other =
+    let a = one.form in
+    let b = other.form in cc
+
+pub IsAnswer-unique : (laws : Laws) (words : List (List ℕ)) (files : Files) (a b : Answer) → IsAnswer words files a → IsAnswer words files b → a ≡ b
+IsAnswer-unique laws words files _ _ (no_form n) (no_form n') = refl
+IsAnswer-unique laws words files _ _ (no_form n) (runs root file b run p) = absurd (n.0 root file run)
+IsAnswer-unique laws words files _ _ (no_form n) (checks root b check p) = absurd (n.1 root check)
+IsAnswer-unique laws words files _ _ (runs root file a run p) (no_form n) = absurd (n.0 root file run)
+IsAnswer-unique laws words files _ _ (runs root file a run p) (runs root' file' b run' q) =
+    let r = root-same words root' file' root file run' run in
+    let f = file-same words root' file' root file run' run in
+    let q' = subst (λ x. IsPlayed files x file b) r (subst (λ x. IsPlayed files root' x b) f q) in
+    both_played files root file a b (played files root file a p) (played files root file b q')
+IsAnswer-unique laws words files _ _ (runs root file a run p) (checks root' b check q) = run-or-check words root file root' run check
+IsAnswer-unique laws words files _ _ (checks root a check p) (no_form n) = absurd (n.1 root check)
+IsAnswer-unique laws words files _ _ (checks root a check p) (runs root' file b run q) = run-or-check words root' file root run check
+IsAnswer-unique laws words files _ _ (checks root a check p) (checks root' b check' q) =
+    IsChecked-unique laws files root a b p (subst (λ x. IsChecked files x b) (checked-same words root' root check' check) q)

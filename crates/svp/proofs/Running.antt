@@ -2,10 +2,9 @@
 use Rattle.std.proofs.Common.{◌≡◌, ℕ, List, Option, refl, sym, ◌∙◌, ap, subst, inl}
 use Rattle.sv_io.specs.Files.{Files}
 use Rattle.sv_io.specs.Sink.{with_bytes, AppendsFront}
-use Rattle.svp.specs.Answer.{Answer, usage, missing, source, events, turns, IsAnswer, status_of, text_of}
-use Rattle.svp.specs.Run.{Answers, BreaksOff, RunAnswers, RunCompletes}
+use Rattle.svp.specs.Answer.{Answer, usage, missing, source, source_at, events, turns, accepted, IsAnswer, status_of, text_of}
+use Rattle.svp.specs.Run.{Answers, BreaksOff, RunAnswers, RunCompletes, IsOneAnswer}
 use Rattle.svp.specs.declared.status.Status.{Status}
-use Rattle.svp.proofs.OneAnswer.{IsAnswer-unique}
 
 answer_given : (words : List (List ℕ)) (files : Files) (old new : Option (List ℕ)) (answer : Answer) → IsAnswer words files answer
     → new ≡ with_bytes old (text_of answer) → Answers words files old new (status_of answer)
@@ -15,9 +14,11 @@ answered : (words : List (List ℕ)) (files : Files) (old new : Option (List ℕ
     → new ≡ with_bytes old (text_of answer) → RunAnswers words files old new (status_of answer)
 answered words files old new usage is written = answer_given words files old new usage is written
 answered words files old new (missing name) is written = answer_given words files old new (missing name) is written
-answered words files old new (source root fault) is written = answer_given words files old new (source root fault) is written
+answered words files old new (source file word) is written = answer_given words files old new (source file word) is written
+answered words files old new (source_at file line column word) is written = answer_given words files old new (source_at file line column word) is written
 answered words files old new (events fault) is written = answer_given words files old new (events fault) is written
 answered words files old new (turns form ids) is written = answer_given words files old new (turns form ids) is written
+answered words files old new accepted is written = answer_given words files old new accepted is written
 
 -- the answer was given
 pub run-answered : (words : List (List ℕ)) (files : Files) (old new : Option (List ℕ)) (status : Status) (answer : Answer) → IsAnswer words files answer
@@ -27,10 +28,10 @@ run-answered words files old new status answer is same written =
     subst P (sym same) (answered words files old new answer is written)
 
 -- the answer that was given is each one that is called for
-pub run-given : (words : List (List ℕ)) (files : Files) (old new : Option (List ℕ)) (status : Status) (given : Answer) → IsAnswer words files given
+pub run-given : IsOneAnswer → (words : List (List ℕ)) (files : Files) (old new : Option (List ℕ)) (status : Status) (given : Answer) → IsAnswer words files given
     → status ≡ status_of given → new ≡ with_bytes old (text_of given) → RunCompletes words files old new status
-run-given words files old new status given called_for status_is written = λ answer is.
-    let same = IsAnswer-unique words files given answer called_for is in
+run-given law words files old new status given called_for status_is written = λ answer is.
+    let same = law words files given answer called_for is in
     inl (record { status_is = status_is ∙ ap status_of same; written = written ∙ ap (λ a. with_bytes old (text_of a)) same })
 
 -- the output of the answer broke off

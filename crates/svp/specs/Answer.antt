@@ -1,10 +1,20 @@
 -- What a run is to answer, by its words and the files that the shelf tells.
-use Rattle.std.specs.Prelude.{◌≡◌, ℕ, ◌<◌, ◌≤◌, List, ◌∷◌, [], ◌++◌, length, Some, None, codes}
+use Rattle.std.specs.Prelude.{◌≡◌, ℕ, ◌<◌, ◌≤◌, List, ◌∷◌, [], ◌++◌, length, Option, Some, None, Ok, Err, codes, decimal, slice_get}
+use Rattle.sv_ast.specs.declared.files.Bundle.{Bundle}
+use Rattle.sv_ast.specs.declared.files.SourceFile.{SourceFile}
+use Rattle.sv_ast.specs.declared.refusals.Kind.TheVariants as kind
+use Rattle.sv_check.specs.Checked.{IsFirstMistake, IsClean}
 use Rattle.sv_io.specs.Files.{Files, find_file}
+use Rattle.sv_load.specs.Lines.{line_in, column_in}
+use Rattle.sv_load.specs.Loads.{Reads, nothing as no_files}
+use Rattle.sv_load.specs.declared.refusals.LoadError.{LoadError}
+use Rattle.sv_load.specs.declared.refusals.LoadError.TheVariants as load
+use Rattle.sv_resolve.specs.declared.refusals.CheckRefusal.{CheckRefusal}
 use Rattle.svp.specs.EventsFile.{Clicks}
 use Rattle.svp.specs.Form.{Form, Spells}
 use Rattle.svp.specs.Page.{pages}
-use Rattle.svp.specs.Words.{IsRun, IsNoForm}
+use Rattle.svp.specs.Kinds.{parse_word, check_word}
+use Rattle.svp.specs.Words.{IsRun, IsCheck, IsNoForm}
 use Rattle.svp.specs.declared.status.Status.{Status}
 use Rattle.svp.specs.declared.status.Status.TheVariants as statuses
 
@@ -12,6 +22,11 @@ use Rattle.svp.specs.declared.status.Status.TheVariants as statuses
 pub data Fault : Type 0 where
   too_long : Fault
   not_built : Fault
+
+-- the word for a fault
+abbrev pub fault_text : Fault → List ℕ
+fault_text too_long = codes "TooLong"
+fault_text not_built = codes "NotBuilt"
 
 -- what is found under a name: nothing, a file that is refused, or a file that holds something
 pub data Found (A : Type 0) : Type 0 where
@@ -43,31 +58,56 @@ AreEvents files file found = IsFound files file 16777216 Clicks found
 pub data Answer : Type 0 where
   usage : Answer
   missing : (name : List ℕ) → Answer
-  source : (root : List ℕ) → Fault → Answer
+  source : (file word : List ℕ) → Answer
+  source_at : (file : List ℕ) (line column : ℕ) (word : List ℕ) → Answer
   events : Fault → Answer
   turns : Form → (ids : List (List ℕ)) → Answer
+  accepted : Answer
 
--- The cause of each answer. The root file is looked at first, and the events file only where there is a program.
+-- What `run ROOT EVENTS` answers. The root file is looked at first, and the events file only where there is a program.
+pub data IsPlayed (files : Files) (root file : List ℕ) : Answer → Type 0 where
+  no_program : IsProgram files root nothing → IsPlayed files root file (missing root)
+  bad_program : (fault : Fault) → IsProgram files root (refused fault) → IsPlayed files root file (source root (fault_text fault))
+  no_events : (form : Form) → IsProgram files root (holding form) → AreEvents files file nothing → IsPlayed files root file (missing file)
+  bad_events : (form : Form) (fault : Fault) → IsProgram files root (holding form) → AreEvents files file (refused fault) → IsPlayed files root file (events fault)
+  plays : (form : Form) (ids : List (List ℕ)) → IsProgram files root (holding form) → AreEvents files file (holding ids) → IsPlayed files root file (turns form ids)
+
+-- what is answered where a program isn't loaded; a failed read and want of memory have no answer
+abbrev pub load_answer : LoadError → Option Answer
+load_answer (load.Missing name) = Some (missing name)
+load_answer (load.TooLong name) = Some (source name (codes "TooLong"))
+load_answer (load.TooMany name) = Some (source name (codes "TooManyFiles"))
+load_answer (load.Refused name kind.NotUtf8 line column) = Some (source name (parse_word kind.NotUtf8))
+load_answer (load.Refused name other line column) = Some (source_at name line column (parse_word other))
+load_answer load.Failed = None
+load_answer load.NoMemory = None
+
+-- the place of a mistake is told by the lines of its file
+abbrev pub mistake_answer : SourceFile → CheckRefusal → Answer
+mistake_answer file m = source_at file.name (line_in file.lines m.at.from) (column_in file.lines m.at.from) (check_word m.kind)
+
+-- What `check ROOT` answers.
+pub data IsChecked (files : Files) (root : List ℕ) : Answer → Type 0 where
+  not_loaded : (error : LoadError) (answer : Answer) → Reads files root no_files (Err error) → load_answer error ≡ Some answer → IsChecked files root answer
+  mistaken : (bundle : Bundle) (m : CheckRefusal) (file : SourceFile) → Reads files root no_files (Ok bundle) → IsFirstMistake bundle m
+      → slice_get bundle.files m.at.file ≡ Some file → IsChecked files root (mistake_answer file m)
+  clean : (bundle : Bundle) → Reads files root no_files (Ok bundle) → IsClean bundle → IsChecked files root accepted
+
+-- the cause of each answer
 pub data IsAnswer (words : List (List ℕ)) (files : Files) : Answer → Type 0 where
   no_form : IsNoForm words → IsAnswer words files usage
-  no_program : (root file : List ℕ) → IsRun words root file → IsProgram files root nothing → IsAnswer words files (missing root)
-  bad_program : (root file : List ℕ) (fault : Fault) → IsRun words root file → IsProgram files root (refused fault) → IsAnswer words files (source root fault)
-  no_events : (root file : List ℕ) (form : Form) → IsRun words root file → IsProgram files root (holding form) → AreEvents files file nothing → IsAnswer words files (missing file)
-  bad_events : (root file : List ℕ) (form : Form) (fault : Fault) → IsRun words root file → IsProgram files root (holding form) → AreEvents files file (refused fault) → IsAnswer words files (events fault)
-  plays : (root file : List ℕ) (form : Form) (ids : List (List ℕ)) → IsRun words root file → IsProgram files root (holding form) → AreEvents files file (holding ids) → IsAnswer words files (turns form ids)
+  runs : (root file : List ℕ) (answer : Answer) → IsRun words root file → IsPlayed files root file answer → IsAnswer words files answer
+  checks : (root : List ℕ) (answer : Answer) → IsCheck words root → IsChecked files root answer → IsAnswer words files answer
 
 -- the status of an answer
 abbrev pub status_of : Answer → Status
 status_of usage = statuses.Usage
 status_of (missing name) = statuses.Missing
-status_of (source root fault) = statuses.Source
+status_of (source file word) = statuses.Source
+status_of (source_at file line column word) = statuses.Source
 status_of (events fault) = statuses.Events
 status_of (turns form ids) = statuses.Ok
-
--- the word for a fault
-abbrev pub fault_text : Fault → List ℕ
-fault_text too_long = codes "TooLong"
-fault_text not_built = codes "NotBuilt"
+status_of accepted = statuses.Ok
 
 -- the line for words that are no form
 unfoldable pub usage_line : List ℕ
@@ -77,6 +117,9 @@ usage_line = codes "usage: svp run ROOT EVENTS [--log] [--watch] [--serials] [--
 abbrev pub text_of : Answer → List ℕ
 text_of usage = usage_line
 text_of (missing name) = codes "missing: " ++ (name ++ 10 ∷ [])
-text_of (source root fault) = codes "source: " ++ (root ++ (codes ": " ++ (fault_text fault ++ 10 ∷ [])))
+text_of (source file word) = codes "source: " ++ (file ++ (codes ": " ++ (word ++ 10 ∷ [])))
+text_of (source_at file line column word) =
+    codes "source: " ++ (file ++ (codes ":" ++ (decimal line ++ (codes ":" ++ (decimal column ++ (codes ": " ++ (word ++ 10 ∷ [])))))))
 text_of (events fault) = codes "events: " ++ (fault_text fault ++ 10 ∷ [])
 text_of (turns form ids) = pages form ids
+text_of accepted = codes "accepted\n"

@@ -1,6 +1,6 @@
 -- The answer that a job gives.
 use Rattle.std.specs.Prelude.{◌≤◌, length, string_bytes, ⊤}
-use Rattle.svp.specs.Answer.{Answer, usage, missing, source, events, turns, Fault, too_long, not_built}
+use Rattle.svp.specs.Answer.{Answer, usage, missing, source, source_at, events, turns, accepted, Fault, too_long, not_built}
 use Rattle.svp.specs.Counter.{form_of}
 use Rattle.svp.specs.Form.{IsForm}
 use Rattle.svp.specs.Words.{bytes_of}
@@ -18,14 +18,17 @@ fault_of faults.NotBuilt = not_built
 abbrev pub refusal_of : Refusal → Answer
 refusal_of refusals.Usage = usage
 refusal_of (refusals.Missing name) = missing (string_bytes name)
-refusal_of (refusals.Source root fault) = source (string_bytes root) (fault_of fault)
+refusal_of (refusals.Source file word) = source (string_bytes file) word.now
+refusal_of (refusals.SourceAt file line column word) = source_at (string_bytes file) line column word.now
 refusal_of (refusals.Events fault) = events (fault_of fault)
 
 abbrev pub answer_of : Job → Answer
 answer_of (jobs.Refuse refusal) = refusal_of refusal
 answer_of (jobs.Play counter ids) = turns (form_of counter) (bytes_of ids.items)
+answer_of jobs.Accept = accepted
 
 -- what is played is a counter and few enough events
 abbrev pub IsPlayable : Job → Type 0
 IsPlayable (jobs.Refuse refusal) = ⊤
+IsPlayable jobs.Accept = ⊤
 IsPlayable (jobs.Play counter ids) = IsForm (form_of counter) × (length (bytes_of ids.items) ≤ 100000)

@@ -2,6 +2,7 @@ pub mod Words
 pub mod Form
 pub mod Page
 pub mod EventsFile
+pub mod Kinds
 pub mod Answer
 pub mod Run
 pub mod Counter

@@ -3,6 +3,8 @@ use Rattle.std.specs.Prelude.{◌≡◌, ℕ, ◌<◌, ◌||◌, ◌==◌, List,
 use Rattle.std.specs.List.{list_all}
 use Rattle.std.specs.declared.alloc.Global.{Global}
 use Rattle.std.specs.Char.{is_ascii_alphanumeric}
+use Rattle.svp.specs.declared.words.Command.{Command}
+use Rattle.svp.specs.declared.words.Command.TheVariants.{Run, Check}
 
 -- a letter or digit of ASCII, `_` or `-`
 abbrev pub is_name_byte : ℕ → Bool
@@ -26,9 +28,26 @@ pub record IsRun (words : List (List ℕ)) (root events : List ℕ) : Type 0 whe
   pub root_name : IsRoot root
   pub events_name : IsEvents events
 
--- the words are no form
+-- the words `check ROOT`
+pub record IsCheck (words : List (List ℕ)) (root : List ℕ) : Type 0 where
+  pub form : words ≡ codes "check" ∷ root ∷ []
+  pub root_name : IsRoot root
+
+-- the words aren't `run ROOT EVENTS`, or not `check ROOT`
+abbrev pub IsNoRun : List (List ℕ) → Type 0
+IsNoRun words = (root events : List ℕ) → IsRun words root events → ⊥
+
+abbrev pub IsNoCheck : List (List ℕ) → Type 0
+IsNoCheck words = (root : List ℕ) → IsCheck words root → ⊥
+
+-- they are no form
 abbrev pub IsNoForm : List (List ℕ) → Type 0
-IsNoForm words = (root events : List ℕ) → IsRun words root events → ⊥
+IsNoForm words = IsNoRun words × IsNoCheck words
+
+-- the words are the form that a command says
+abbrev pub IsCommand : List (List ℕ) → Command → Type 0
+IsCommand words (Run root events) = IsRun words root.now events.now
+IsCommand words (Check root) = IsCheck words root.now
 
 -- texts as their bytes
 abbrev pub bytes_of : List (String Global) → List (List ℕ)

@@ -1,7 +1,7 @@
 // What a run is to do.
 ghost use Rattle.std.specs.Prelude.{◌≡◌, IfOk, string_bytes};
-ghost use Rattle.svp.specs.Answer.{status_of, text_of};
-ghost use Rattle.svp.specs.Job.{refusal_of};
+ghost use Rattle.svp.specs.Answer.{status_of, text_of, fault_text};
+ghost use Rattle.svp.specs.Job.{refusal_of, fault_of};
 
 use crate::counter::Counter;
 use crate::status::Status;
@@ -25,8 +25,15 @@ pub enum Refusal {
     Usage,
     /// The file of this name isn't there.
     Missing(String),
-    /// The root file of this name is refused.
-    Source(String, FileFault),
+    /// The file of this name is refused as a whole, by a word.
+    Source(String, &'static str),
+    /// The file of this name is refused at a place, by a word.
+    SourceAt {
+        file: String,
+        line: usize,
+        column: usize,
+        word: &'static str,
+    },
     /// The events file is refused.
     Events(FileFault),
 }
@@ -38,10 +45,24 @@ pub enum Job {
     Refuse(Refusal),
     /// Print the pages of the counter under clicks on these ids.
     Play(Counter, Vec<String>),
+    /// Say that the program is accepted.
+    Accept,
 }
 
 const USAGE: &str =
     "usage: svp run ROOT EVENTS [--log] [--watch] [--serials] [--tally] | check ROOT | print ROOT | gen N\n";
+
+impl FileFault {
+    /// The word for it.
+    pub fn word(self) -> &'static str
+        ensures { result.now ≡ fault_text (fault_of self) }
+    {
+        match self {
+            FileFault::TooLong => "TooLong",
+            FileFault::NotBuilt => "NotBuilt",
+        }
+    }
+}
 
 impl fmt::Display for FileFault {
     ghost use Rattle.std.specs.Prelude.{Some};
@@ -51,10 +72,7 @@ impl fmt::Display for FileFault {
     ghost output = { λ fault. Some (fault_text (fault_of fault)) };
 
     fn fmt<W: fmt::Write>(&self, f: &mut fmt::Formatter<W>) -> fmt::Result {
-        match self {
-            FileFault::TooLong => write!(f, "TooLong"),
-            FileFault::NotBuilt => write!(f, "NotBuilt"),
-        }
+        f.write_str(self.word())
     }
 }
 
@@ -66,7 +84,7 @@ impl Refusal {
         match self {
             Refusal::Usage => Status::Usage,
             Refusal::Missing(_) => Status::Missing,
-            Refusal::Source(_, _) => Status::Source,
+            Refusal::Source(..) | Refusal::SourceAt { .. } => Status::Source,
             Refusal::Events(_) => Status::Events,
         }
     }
@@ -79,7 +97,13 @@ impl Refusal {
         match self {
             Refusal::Usage => Ok(String::from_str(alloc, USAGE)?),
             Refusal::Missing(name) => Ok(format!(in alloc; "missing: {name}\n")?),
-            Refusal::Source(root, fault) => Ok(format!(in alloc; "source: {root}: {fault}\n")?),
+            Refusal::Source(file, word) => Ok(format!(in alloc; "source: {file}: {word}\n")?),
+            Refusal::SourceAt {
+                file,
+                line,
+                column,
+                word,
+            } => Ok(format!(in alloc; "source: {file}:{line}:{column}: {word}\n")?),
             Refusal::Events(fault) => Ok(format!(in alloc; "events: {fault}\n")?),
         }
     }

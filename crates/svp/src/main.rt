@@ -1,10 +1,14 @@
 //! The program `svp`: it reads a root component and a file of recorded events, and prints the page after mounting and
-//! after each event. `top::run` carries what is promised; `main` gives it the present folder and standard output.
+//! after each event; or it checks a root component with all that it imports. `top::run` carries what is promised; `main` gives it the present folder and standard output.
 #![tactic(auto)]
 
+mod check;
+#[cfg(test)]
+mod check_tests;
 mod counter;
 mod events;
 mod job;
+mod kinds;
 mod laws;
 mod load;
 mod page;

@@ -6,18 +6,20 @@ ghost use Rattle.svp.specs.Form.{IsForm, largest};
 ghost use Rattle.svp.specs.Page.{pages, meets, clicked};
 ghost use Rattle.svp.specs.Words.{bytes_of};
 ghost use Rattle.svp.specs.Counter.{form_of};
-ghost use Rattle.svp.specs.Answer.{IsAnswer, status_of, text_of};
+ghost use Rattle.svp.specs.Answer.{IsAnswer, IsPlayed, status_of, text_of};
 ghost use Rattle.svp.specs.Job.{answer_of, IsPlayable};
 ghost use Rattle.svp.specs.Run.{RunAnswers, RunCompletes};
 ghost use Rattle.svp.specs.Stage.{Shows};
 
+use crate::check::decide_check;
 use crate::counter::Counter;
 use crate::job::{Job, Refusal};
+use crate::laws::one_answer;
 use crate::load::{Loaded, load_counter, load_events};
 use crate::page::turn_text;
 use crate::stage::Stage;
 use crate::status::Status;
-use crate::words::run_words;
+use crate::words::{Command, command_of};
 use std::alloc::Global;
 use sv_base::NoMemory;
 use sv_io::{Shelf, ShelfError, Sink, SinkError, write_all};
@@ -29,9 +31,25 @@ fn decide<F: Shelf>(alloc: Global, words: &[String], shelf: &mut F) -> Result<Jo
     ensures later { F.faults shelf.old ≤ F.faults shelf.new }
     ensures failed { result ≡ Err ShelfError.Failed → Rose (F.faults shelf.old) (F.faults shelf.new) }
 {
-    let Some((root, file)) = run_words(words) else {
-        return Ok(Job::Refuse(Refusal::Usage));
-    };
+    match command_of(words) {
+        Some(Command::Run { root, events }) => decide_run(alloc, root, events, shelf),
+        Some(Command::Check { root }) => decide_check(alloc, root, shelf),
+        None => Ok(Job::Refuse(Refusal::Usage)),
+    }
+}
+
+// What `run ROOT EVENTS` asks for.
+fn decide_run<F: Shelf>(
+    alloc: Global,
+    root: &str,
+    file: &str,
+    shelf: &mut F,
+) -> Result<Job, ShelfError>
+    ensures answer { IfOk result (λ job. IfSome (F.files shelf.old) (λ files. IsPlayed files root.now file.now (answer_of job))) }
+    ensures playable { IfOk result IsPlayable }
+    ensures later { F.faults shelf.old ≤ F.faults shelf.new }
+    ensures failed { result ≡ Err ShelfError.Failed → Rose (F.faults shelf.old) (F.faults shelf.new) }
+{
     let counter = match load_counter(alloc, root, shelf)? {
         Loaded::Read(counter) => counter,
         Loaded::Missing => {
@@ -40,7 +58,7 @@ fn decide<F: Shelf>(alloc: Global, words: &[String], shelf: &mut F) -> Result<Jo
         }
         Loaded::Refused(fault) => {
             let name = String::from_str(alloc, root)?;
-            return Ok(Job::Refuse(Refusal::Source(name, fault)));
+            return Ok(Job::Refuse(Refusal::Source(name, fault.word())));
         }
     };
     match load_events(alloc, file, shelf)? {
@@ -125,6 +143,10 @@ fn answer<K: Sink>(alloc: Global, job: &Job, out: &mut K) -> Result<Status, Sink
             play(alloc, counter, ids, out)?;
             Ok(Status::Ok)
         }
+        Job::Accept => {
+            write_all(out, b"accepted\n")?;
+            Ok(Status::Ok)
+        }
     }
 }
 
@@ -148,6 +170,7 @@ pub fn run<F: Shelf, K: Sink>(alloc: Global, words: &[String], shelf: &mut F, ou
     ensures sink_later { K.faults out.old ≤ K.faults out.new }
     ensures no_turn { result ≢ Status.Turn }
 {
+    one_answer();
     let job = match decide(alloc, words, shelf) {
         Ok(job) => job,
         Err(ShelfError::Failed) => return Status::ReadFault,

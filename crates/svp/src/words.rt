@@ -1,7 +1,7 @@
 // The words of the command line. `docs/formats.md` lists their forms.
 ghost use Rattle.std.specs.Prelude.{◌≡◌, ℕ, List, IsTrue, ◌↔◌, IfSome, IfNone};
 ghost use Rattle.std.specs.List.{list_all};
-ghost use Rattle.svp.specs.Words.{is_name_byte, IsRoot, IsEvents, IsRun, IsNoForm, bytes_of};
+ghost use Rattle.svp.specs.Words.{is_name_byte, IsRoot, IsEvents, IsRun, IsCheck, IsCommand, IsNoRun, IsNoCheck, IsNoForm, bytes_of};
 
 fn are_name_bytes(bytes: &[u8]) -> bool
     ensures { result ≡ list_all is_name_byte bytes.now }
@@ -32,16 +32,50 @@ fn is_events(word: &str) -> bool
     }
 }
 
-/// The names of the root file and of the events file, or `None` exactly where the words aren't `run ROOT EVENTS`.
-pub fn run_words(words: &[String]) -> Option<(&str, &str)>
-    ensures some { IfSome result (λ names. IsRun (bytes_of words.now) names.0.now names.1.now) }
+/// What the words ask for.
+#[derive(Clone, Copy)]
+pub enum Command<'a> {
+    /// `run ROOT EVENTS`.
+    Run { root: &'a str, events: &'a str },
+    /// `check ROOT`.
+    Check { root: &'a str },
+}
+
+/// The command of the words, or `None` exactly where they are no form.
+pub fn command_of(words: &[String]) -> Option<Command<'_>>
+    ensures some { IfSome result (IsCommand (bytes_of words.now)) }
     ensures none { IfNone result (IsNoForm (bytes_of words.now)) }
+{
+    if let Some((root, events)) = run_words(words) {
+        return Some(Command::Run { root, events });
+    }
+    match check_words(words) {
+        Some(root) => Some(Command::Check { root }),
+        None => None,
+    }
+}
+
+// The names of the root file and of the events file, where the words are `run ROOT EVENTS`.
+fn run_words(words: &[String]) -> Option<(&str, &str)>
+    ensures some { IfSome result (λ names. IsRun (bytes_of words.now) names.0.now names.1.now) }
+    ensures none { IfNone result (IsNoRun (bytes_of words.now)) }
 {
     match words {
         [command, root, events]
             if command.as_str() == "run" && is_root(root) && is_events(events) => {
             Some((root.as_str(), events.as_str()))
         }
+        _ => None,
+    }
+}
+
+// The name of the root file, where the words are `check ROOT`.
+fn check_words(words: &[String]) -> Option<&str>
+    ensures some { IfSome result (λ root. IsCheck (bytes_of words.now) root.now) }
+    ensures none { IfNone result (IsNoCheck (bytes_of words.now)) }
+{
+    match words {
+        [command, root] if command.as_str() == "check" && is_root(root) => Some(root.as_str()),
         _ => None,
     }
 }

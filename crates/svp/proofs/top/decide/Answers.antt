@@ -1,30 +1,18 @@
-use Rattle.std.proofs.Common.{ap}
-use Rattle.svp.specs.Load.{program_of, events_of}
-use Rattle.svp.proofs.Deciding.{calls-usage, calls-no_program, calls-bad_program, calls-no_events, calls-bad_events, calls-plays}
+use Rattle.std.proofs.Common.{subst}
+use Rattle.svp.specs.Job.{answer_of}
+use Rattle.svp.specs.Words.{bytes_of, IsCommand}
+use Rattle.svp.proofs.Deciding.{ok_weaker, calls-usage, calls-run, calls-check}
 use Rattle.svp.proofs.top.decide.Goals as goal
 
-pub returns-in_default-clause-answer : goal.returns-in_default-clause-answer
-returns-in_default-clause-answer g c = calls-usage _ _ c.in_default.ensures.none
+pub returns-in-Some-Run-clause-answer : goal.returns-in-Some-Run-clause-answer
+returns-in-Some-Run-clause-answer g c = ok_weaker c.decide_run.result
+    (λ job. calls-run (g.F.Shelf.files c.args.shelf.now) (bytes_of c.args.words.now) c.in-Some-Run.root.now c.in-Some-Run.events.now (answer_of job) (subst (IsCommand (bytes_of c.args.words.now)) c.in-Some-Run.field-0-is c.in-Some-Run.ensures.some))
+    c.decide_run.ensures.answer
 
-pub returns-in-Missing-clause-answer : goal.returns-in-Missing-clause-answer
-returns-in-Missing-clause-answer g c =
-    calls-no_program _ _ _ _ _ _ c.in-Some.ensures.some c.in_ok-name-in-Missing.ensures.ok (ap program_of c.in-Missing.is) c.in_ok-counter.ensures.loaded
+pub returns-in-Some-Check-clause-answer : goal.returns-in-Some-Check-clause-answer
+returns-in-Some-Check-clause-answer g c = ok_weaker c.decide_check.result
+    (λ job. calls-check (g.F.Shelf.files c.args.shelf.now) (bytes_of c.args.words.now) c.in-Some-Check.root.now (answer_of job) (subst (IsCommand (bytes_of c.args.words.now)) c.in-Some-Check.field-0-is c.in-Some-Check.ensures.some))
+    c.decide_check.ensures.answer
 
-pub returns-in-Refused-clause-answer : goal.returns-in-Refused-clause-answer
-returns-in-Refused-clause-answer g c =
-    calls-bad_program _ _ _ _ _ _ _ c.in-Some.ensures.some c.in_ok-name-in-Refused.ensures.ok (ap program_of c.in-Refused.is) c.in_ok-counter.ensures.loaded
-
-pub returns-in-Read-2-clause-answer : goal.returns-in-Read-2-clause-answer
-returns-in-Read-2-clause-answer g c =
-    let clicks = rw c.in_ok-counter.ensures.same at c.in_ok-ids.ensures.loaded in
-    calls-plays _ _ _ _ _ _ _ _ c.in-Some.ensures.some (ap program_of c.in-Read.is) (ap events_of c.in-Read-2.is) c.in_ok-counter.ensures.loaded clicks
-
-pub returns-in_ok-name-in-Missing-2-clause-answer : goal.returns-in_ok-name-in-Missing-2-clause-answer
-returns-in_ok-name-in-Missing-2-clause-answer g c =
-    let clicks = rw c.in_ok-counter.ensures.same at c.in_ok-ids.ensures.loaded in
-    calls-no_events _ _ _ _ _ _ _ _ c.in-Some.ensures.some c.in_ok-name-in-Missing-2.ensures.ok (ap program_of c.in-Read.is) (ap events_of c.in-Missing-2.is) c.in_ok-counter.ensures.loaded clicks
-
-pub returns-in-Refused-2-clause-answer : goal.returns-in-Refused-2-clause-answer
-returns-in-Refused-2-clause-answer g c =
-    let clicks = rw c.in_ok-counter.ensures.same at c.in_ok-ids.ensures.loaded in
-    calls-bad_events _ _ _ _ _ _ _ _ c.in-Some.ensures.some (ap program_of c.in-Read.is) (ap events_of c.in-Refused-2.is) c.in_ok-counter.ensures.loaded clicks
+pub returns-in-None-clause-answer : goal.returns-in-None-clause-answer
+returns-in-None-clause-answer g c = calls-usage (g.F.Shelf.files c.args.shelf.now) (bytes_of c.args.words.now) c.in-None.ensures.none

@@ -12,7 +12,7 @@ returns-in-Ok-answer-clause-answers g c = some_weaker (g.F.Shelf.files c.args.sh
 
 pub returns-in-Ok-answer-clause-completes : goal.returns-in-Ok-answer-clause-completes
 returns-in-Ok-answer-clause-completes g c = some_weaker (g.F.Shelf.files c.args.shelf.now)
-    (λ files is shelf sink. run-given (bytes_of c.args.words.now) files _ _ _ (answer_of c.in-Ok.job) is c.in-Ok-answer.ensures.status c.in-Ok-answer.ensures.all)
+    (λ files is shelf sink. run-given c.one_answer.ensures (bytes_of c.args.words.now) files _ _ _ (answer_of c.in-Ok.job) is c.in-Ok-answer.ensures.status c.in-Ok-answer.ensures.all)
     c.in-Ok.ensures.answer
 
 pub returns-in-Err-Failed-answer-clause-answers : goal.returns-in-Err-Failed-answer-clause-answers
