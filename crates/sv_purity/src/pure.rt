@@ -45,6 +45,10 @@ pub fn is_pure(names: &Names, e: &Expr, pure: &RefList) -> bool
 /// The first place where an expression isn't pure, in the order of the text, or `None` where it is: an assignment, a `++` or `--`, or
 /// a call of none of the three kinds. Such a call stands before what is found in its parts. A call on a list whose arrow hasn't a
 /// pure body is that place itself. `scope` tells which pure functions are seen where the expression stands.
+///
+/// A scope in the expression that declares no name of a pure function is passed over, after one look at its declarations. One that
+/// declares such a name anew is looked through again for each name that is called or handed to a call in it, and for each that a
+/// scope in it declares: a long block of that kind takes time in the square of its length.
 #[tactic(auto, using(crate::proofs::First::result_err_outcome))]
 pub fn first_impurity(names: &Names, e: &Expr, scope: &Scope<'_>) -> Option<Span>
     ensures { result ≡ first (spec.impurities names.now e.now (visible scope.now)) }

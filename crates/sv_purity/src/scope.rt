@@ -1,5 +1,7 @@
 // The scopes round a part of an expression, and what they hide.
-ghost use Rattle.std.specs.Prelude.{◌≡◌, map};
+ghost use Rattle.std.specs.Prelude.{◌≡◌, Bool, map};
+ghost use Rattle.std.specs.List.{list_any};
+ghost use Rattle.sv_ast.specs.declared.names.Ref.{Ref};
 ghost use Rattle.sv_names.specs.Distinct.{same_ref, has};
 ghost use Rattle.sv_names.specs.Uses.{named, imported};
 ghost use Rattle.sv_purity.specs.Pure.{together, decl_part, stmt_part, without};
@@ -10,7 +12,7 @@ use sv_names::Distinct;
 
 /// The pure functions that are seen from some place: those of the whole, but for what the scopes round the place hide. A clause sees
 /// it by `visible`, the list of their names.
-#[derive(Drop)]
+#[derive(Clone, Copy)]
 pub enum Scope<'a> {
     /// Round the whole: the names of the pure functions.
     Top(&'a Distinct),
@@ -30,15 +32,48 @@ pub enum Scope<'a> {
 }
 
 impl<'a> Scope<'a> {
-    /// A scope in another, which declares parameters and what its statements declare.
+    /// A scope in another, which declares parameters and what its statements declare. One that hides nothing is passed over: it is
+    /// the scope round it.
+    #[tactic(auto, using(crate::proofs::Hiding::without_none))]
     pub(crate) fn inside(outer: &'a Scope<'a>, params: &'a [Named], stmts: &'a [Stmt]) -> Scope<'a>
         ensures { visible result ≡ without (declared_by params.now stmts.now) (visible outer.now) }
     {
-        Scope::Inner {
-            outer,
-            params,
-            stmts,
+        if is_any_declared(params, stmts, outer) {
+            Scope::Inner {
+                outer,
+                params,
+                stmts,
+            }
+        } else {
+            *outer
         }
+    }
+}
+
+// What is looked for among the names that a scope declares.
+trait Sought {
+    // Whether it is this name.
+    ghost is_sought: { Self → Ref → Bool };
+
+    fn seeks(&self, name: Ref) -> bool
+        ensures { result ≡ is_sought self.now name };
+}
+
+// One name.
+impl Sought for Ref {
+    ghost is_sought = { same_ref };
+
+    fn seeks(&self, name: Ref) -> bool {
+        *self == name
+    }
+}
+
+// Any name of a pure function that is seen here.
+impl Sought for Scope<'_> {
+    ghost is_sought = { λ scope name. has name (visible scope) };
+
+    fn seeks(&self, name: Ref) -> bool {
+        is_pure_name(self, name)
     }
 }
 
@@ -55,56 +90,55 @@ pub(crate) fn is_pure_name(scope: &Scope<'_>, name: Ref) -> bool
             outer,
             params,
             stmts,
-        } => !is_hidden(params, stmts, name) && is_pure_name(outer, name),
+        } => !is_any_declared(params, stmts, &name) && is_pure_name(outer, name),
     }
 }
 
-// Whether a scope declares a name.
-fn is_hidden(params: &[Named], stmts: &[Stmt], name: Ref) -> bool
-    ensures { result ≡ has name (declared_by params.now stmts.now) }
+// Whether a scope declares a name that is sought.
+fn is_any_declared<S: Sought>(params: &[Named], stmts: &[Stmt], sought: &S) -> bool
+    ensures { result ≡ list_any (S.is_sought sought.now) (declared_by params.now stmts.now) }
 {
-    is_named(params, name) || is_declared(stmts, name)
+    is_named(params, sought) || is_declared(stmts, sought)
 }
 
-// Whether a declared name is this one.
-fn is(own: &Named, name: Ref) -> bool
-    ensures { result ≡ same_ref name (named own.now) }
+fn is<S: Sought>(own: &Named, sought: &S) -> bool
+    ensures { result ≡ S.is_sought sought.now (named own.now) }
 {
-    name == Ref::Plain(own.name)
+    sought.seeks(Ref::Plain(own.name))
 }
 
-// Whether a name is that of a parameter.
-fn is_named(params: &[Named], name: Ref) -> bool
-    ensures { result ≡ has name (map named params.now) }
+// Whether a parameter has a name that is sought.
+fn is_named<S: Sought>(params: &[Named], sought: &S) -> bool
+    ensures { result ≡ list_any (S.is_sought sought.now) (map named params.now) }
 {
     for own in params {
-        if is(own, name) {
+        if is(own, sought) {
             return true;
         }
     }
     false
 }
 
-// Whether some statement declares a name in the scope round it.
-fn is_declared(stmts: &[Stmt], name: Ref) -> bool
-    ensures { result ≡ has name (together (map stmt_part stmts.now)).declares }
+// Whether some statement declares such a name in the scope round it.
+fn is_declared<S: Sought>(stmts: &[Stmt], sought: &S) -> bool
+    ensures { result ≡ list_any (S.is_sought sought.now) (together (map stmt_part stmts.now)).declares }
 {
     for stmt in stmts {
-        if declares(stmt, name) {
+        if declares(stmt, sought) {
             return true;
         }
     }
     false
 }
 
-fn declares(stmt: &Stmt, name: Ref) -> bool
-    ensures { result ≡ has name (stmt_part stmt.now).declares }
+fn declares<S: Sought>(stmt: &Stmt, sought: &S) -> bool
+    ensures { result ≡ list_any (S.is_sought sought.now) (stmt_part stmt.now).declares }
 {
     match &stmt.kind {
-        StmtKind::Let(decls) | StmtKind::Export(decls) => is_among(decls.as_slice(), name),
-        StmtKind::Const { decls, .. } => is_among(decls.as_slice(), name),
-        StmtKind::Import(import) => imports(import, name),
-        StmtKind::Func { name: own, .. } => is(own, name),
+        StmtKind::Let(decls) | StmtKind::Export(decls) => is_among(decls.as_slice(), sought),
+        StmtKind::Const { decls, .. } => is_among(decls.as_slice(), sought),
+        StmtKind::Import(import) => imports(import, sought),
+        StmtKind::Func { name: own, .. } => is(own, sought),
         StmtKind::Empty
         | StmtKind::Block(_)
         | StmtKind::If { .. }
@@ -119,32 +153,32 @@ fn declares(stmt: &Stmt, name: Ref) -> bool
     }
 }
 
-fn is_among(decls: &[Decl], name: Ref) -> bool
-    ensures { result ≡ has name (together (map decl_part decls.now)).declares }
+fn is_among<S: Sought>(decls: &[Decl], sought: &S) -> bool
+    ensures { result ≡ list_any (S.is_sought sought.now) (together (map decl_part decls.now)).declares }
 {
     for decl in decls {
-        if is(&decl.name, name) {
+        if is(&decl.name, sought) {
             return true;
         }
     }
     false
 }
 
-fn imports(import: &Import, name: Ref) -> bool
-    ensures { result ≡ has name (imported import.now) }
+fn imports<S: Sought>(import: &Import, sought: &S) -> bool
+    ensures { result ≡ list_any (S.is_sought sought.now) (imported import.now) }
 {
     let is_whole = match &import.whole {
-        Some(own) => is(own, name),
+        Some(own) => is(own, sought),
         None => false,
     };
-    is_whole || is_given(import.specs.as_slice(), name)
+    is_whole || is_given(import.specs.as_slice(), sought)
 }
 
-fn is_given(specs: &[Spec], name: Ref) -> bool
-    ensures { result ≡ has name (map (λ spec. named spec.local) specs.now) }
+fn is_given<S: Sought>(specs: &[Spec], sought: &S) -> bool
+    ensures { result ≡ list_any (S.is_sought sought.now) (map (λ spec. named spec.local) specs.now) }
 {
     for spec in specs {
-        if is(&spec.local, name) {
+        if is(&spec.local, sought) {
             return true;
         }
     }

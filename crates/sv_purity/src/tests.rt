@@ -96,7 +96,7 @@ const MADE: [Case; 14] = [
 ];
 
 // Scopes that hide `f`, and scopes that don't.
-const HIDDEN: [Case; 14] = [
+const HIDDEN: [Case; 17] = [
     ("l.map(f => f(0))", false),
     ("l.map(x => l.map(f))", true),
     ("l.map(f => l.map(f))", false),
@@ -106,6 +106,12 @@ const HIDDEN: [Case; 14] = [
     ("l.map(x => { f(0); let f = 0 })", false),
     ("l.map(x => { const f = 0; return f(0) })", false),
     ("l.map(x => { let x = f(0); return f(x) })", true),
+    (
+        "l.map(x => { let y = f(0); { let z = y; return f(z) } })",
+        true,
+    ),
+    ("l.map(x => { let y = f(0); let f = y; return y })", false),
+    ("l.map(f => { let y = 0; { return f(y) } })", false),
     ("l.map(x => { { let f = 0 } f(0) })", true),
     ("l.map(x => { for (const f of l) f(0) })", false),
     ("l.map(x => { for (const f of l) {} f(0) })", true),
