@@ -101,6 +101,7 @@ fn is_any_declared<S: Sought>(params: &[Named], stmts: &[Stmt], sought: &S) -> b
     is_named(params, sought) || is_declared(stmts, sought)
 }
 
+// Whether a declared name is sought.
 fn is<S: Sought>(own: &Named, sought: &S) -> bool
     ensures { result ≡ S.is_sought sought.now (named own.now) }
 {

@@ -106,10 +106,7 @@ const HIDDEN: [Case; 17] = [
     ("l.map(x => { f(0); let f = 0 })", false),
     ("l.map(x => { const f = 0; return f(0) })", false),
     ("l.map(x => { let x = f(0); return f(x) })", true),
-    (
-        "l.map(x => { let y = f(0); { let z = y; return f(z) } })",
-        true,
-    ),
+    ("l.map(x => { let y = 0; { let z = y; f(z) } })", true),
     ("l.map(x => { let y = f(0); let f = y; return y })", false),
     ("l.map(f => { let y = 0; { return f(y) } })", false),
     ("l.map(x => { { let f = 0 } f(0) })", true),
