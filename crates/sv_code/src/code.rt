@@ -1,0 +1,98 @@
+// Expressions.
+use sv_ast::{AssignOp, Op, Ref};
+use sv_base::{Name, Num, Span, Text};
+use sv_list::Boxed;
+
+/// Expressions, as the arguments of a call or the parts of a template.
+pub type Codes = sv_list::Items<Code>;
+
+/// What a list literal holds.
+pub type CodeItems = sv_list::Items<CodeItem>;
+
+/// What an object literal holds.
+pub type CodeFields = sv_list::Items<CodeField>;
+
+/// The operators of one level behind the first operand, each with its right side.
+pub type CodeLinks = sv_list::Items<CodeLink>;
+
+/// An expression, with the place at which it is written.
+#[cycle(code)]
+#[derive(Drop)]
+pub struct Code {
+    pub span: Span,
+    pub kind: CodeKind,
+}
+
+/// The forms of expressions, as those of `sv_ast::ExprKind`.
+#[cycle(code)]
+#[derive(Drop)]
+pub enum CodeKind {
+    Undefined,
+    Null,
+    Bool(bool),
+    Num(Num),
+    Text(Text),
+    Read(Ref),
+    List(CodeItems),
+    Object(CodeFields),
+    Template(Codes),
+    /// An arrow, by its number among the functions of the program.
+    Arrow(u32),
+    Assign {
+        target: Ref,
+        op: AssignOp,
+        value: Boxed<Code>,
+    },
+    Bump {
+        target: Ref,
+        up: bool,
+        prefix: bool,
+    },
+    Chain {
+        first: Boxed<Code>,
+        rest: CodeLinks,
+    },
+    Not(Boxed<Code>),
+    Minus(Boxed<Code>),
+    Choose {
+        test: Boxed<Code>,
+        yes: Boxed<Code>,
+        no: Boxed<Code>,
+    },
+    Member {
+        of: Boxed<Code>,
+        word: Name,
+    },
+    Index {
+        of: Boxed<Code>,
+        at: Boxed<Code>,
+    },
+    Call {
+        of: Boxed<Code>,
+        args: Codes,
+    },
+}
+
+/// An operator with its right side.
+#[cycle(code)]
+#[derive(Drop)]
+pub struct CodeLink {
+    pub op: Op,
+    pub right: Code,
+}
+
+/// An item of a list literal.
+#[cycle(code)]
+#[derive(Drop)]
+pub enum CodeItem {
+    One(Code),
+    Spread(Code),
+}
+
+/// A field of an object literal.
+#[cycle(code)]
+#[derive(Drop)]
+pub enum CodeField {
+    Pair { key: Text, value: Code },
+    Spread(Code),
+}
