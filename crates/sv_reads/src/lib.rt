@@ -1,0 +1,12 @@
+//! The names that expressions and content look at: cells by number, and locals of rows and slot props.
+#![tactic(auto)]
+
+mod around;
+mod looks;
+mod names;
+#[cfg(test)]
+mod tests;
+
+pub use around::LocalScope;
+pub use looks::looked_at;
+pub use names::reading;
