@@ -22,7 +22,7 @@ use Rattle.sv_script.specs.Calls.{input_of}
 use Rattle.sv_script.specs.Script.{file_module}
 use Rattle.sv_load.specs.Calls.{Parses}
 use Rattle.sv_load.specs.Imports.{is_module}
-use Rattle.sv_load.specs.Lines.{line_starts}
+use Rattle.sv_lines.specs.Lines.{line_starts}
 use Rattle.sv_load.specs.Loads.{Opened, Holds, no_tree, tree, Finds, missing, too_long, found, Opens, too_many, not_found, there, Tells, refusal}
 use Rattle.sv_load.specs.Trees.{IsTree, HasNoTree}
 use Rattle.sv_load.specs.declared.refusals.LoadError.{LoadError}

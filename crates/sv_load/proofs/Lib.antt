@@ -1,5 +1,3 @@
-pub mod Starts
-pub mod Places
 pub mod Told
 pub mod Finding
 pub mod Reading

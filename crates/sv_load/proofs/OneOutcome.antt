@@ -6,7 +6,7 @@ use Rattle.sv_io.specs.Files.{Files}
 use Rattle.sv_script.specs.Calls.{input_of}
 use Rattle.sv_load.specs.Imports.{imports, is_module}
 use Rattle.sv_load.specs.Laws.{IsOneOutcome}
-use Rattle.sv_load.specs.Lines.{line_starts}
+use Rattle.sv_lines.specs.Lines.{line_starts}
 use Rattle.sv_load.specs.Loads.{Opened, Holds, no_tree, tree, Finds, missing, too_long, found, Opens, too_many, not_found, there, Reads, known, stops, goes_on, ReadsAll, done, next, ends, has_file, with_file, nothing, refusal}
 use Rattle.sv_load.specs.declared.refusals.LoadError.{LoadError}
 use Rattle.sv_load.proofs.OneTree.{Readers, IsTree-unique, HasNoTree-unique, IsTree-HasNoTree}

@@ -1,4 +1,3 @@
-pub mod Lines
 pub mod Imports
 pub mod Trees
 pub mod Loads

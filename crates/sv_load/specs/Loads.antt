@@ -10,7 +10,7 @@ use Rattle.sv_ast.specs.declared.files.SourceFile.{SourceFile}
 use Rattle.sv_ast.specs.declared.refusals.Refused.{Refused as Cause}
 use Rattle.sv_script.specs.Calls.{input_of}
 use Rattle.sv_load.specs.Imports.{imports, is_module}
-use Rattle.sv_load.specs.Lines.{line_starts}
+use Rattle.sv_lines.specs.Lines.{line_starts}
 use Rattle.sv_load.specs.Trees.{IsTree, HasNoTree}
 use Rattle.sv_load.specs.declared.refusals.LoadError.{LoadError}
 use Rattle.sv_load.specs.declared.refusals.LoadError.TheVariants.{Missing, TooLong, TooMany, Refused, Failed, NoMemory}

@@ -1,6 +1,7 @@
 // Reads one file.
-ghost use Rattle.std.specs.Prelude.{◌≡◌, ◌≢◌, ◌<◌, ◌≤◌, length, IfOk, IfSome};
+ghost use Rattle.std.specs.Prelude.{◌≡◌, ◌≢◌, ◌<◌, ◌≤◌, length, true, IfOk, IfSome};
 ghost use Rattle.sv_io.specs.Faults.{Rose};
+ghost use Rattle.sv_lines.specs.Lines.{ascends};
 ghost use Rattle.sv_load.specs.Calls.{bytes_of, opened_of, Parses};
 ghost use Rattle.sv_load.specs.Imports as spec;
 ghost use Rattle.sv_load.specs.Loads as loads;
@@ -8,12 +9,12 @@ ghost use Rattle.sv_load.specs.Loads.{Finds, Holds, Opens, Tells};
 ghost use Rattle.sv_script.specs.Calls.{input_of};
 
 use crate::imports::is_module;
-use crate::lines::line_starts;
 use crate::refusals::LoadError;
 use std::alloc::Global;
 use sv_ast::{FileTree, ParseError, Refused, SourceFile};
 use sv_base::{FILE_LIMIT, Names, NoMemory, TEXT_LIMIT, Text, line_col};
 use sv_io::{Got, Shelf, ShelfError};
+use sv_lines::line_starts;
 use sv_markup::{parse_component, parse_module};
 
 /// The most files of a program.
@@ -81,6 +82,7 @@ fn source_file(
 ) -> Result<SourceFile, LoadError>
     requires { length bytes.now < TEXT_LIMIT }
     ensures holds { Tells (Holds number name.now bytes.now names.old) (opened_of result names.new) }
+    ensures lines { IfOk result (λ file. ascends file.lines ≡ true) }
     ensures tried { result ≢ Err LoadError.Failed }
 {
     let tree = match parse(alloc, names, number, name, bytes) {
@@ -103,6 +105,7 @@ pub fn open<F: Shelf>(
     name: &Text,
 ) -> Result<SourceFile, LoadError>
     ensures opens { IfSome (F.files shelf.old) (λ files. Tells (Opens files number name.now names.old) (opened_of result names.new)) }
+    ensures lines { IfOk result (λ file. ascends file.lines ≡ true) }
     ensures few { IfOk result (λ file. number < FILE_COUNT_LIMIT) }
     ensures same { F.files shelf.new ≡ F.files shelf.old }
     ensures later { F.faults shelf.old ≤ F.faults shelf.new }

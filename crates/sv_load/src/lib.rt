@@ -5,7 +5,6 @@
 mod file;
 mod imports;
 mod laws;
-mod lines;
 mod loading;
 mod refusals;
 #[cfg(test)]
@@ -13,6 +12,5 @@ mod tests;
 
 pub use file::FILE_COUNT_LIMIT;
 pub use laws::one_outcome;
-pub use lines::place_of;
 pub use loading::load;
 pub use refusals::LoadError;

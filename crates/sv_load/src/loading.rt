@@ -1,6 +1,7 @@
 // Reads a file and what it imports.
 ghost use Rattle.std.specs.Prelude.{◌≡◌, ◌≤◌, length, IfOk, OnOk, IfSome};
 ghost use Rattle.sv_io.specs.Faults.{Rose};
+ghost use Rattle.sv_lines.specs.Lines.{LinesAscend};
 ghost use Rattle.sv_load.specs.Calls.{outcome_of};
 ghost use Rattle.sv_load.specs.Loads as spec;
 ghost use Rattle.sv_load.specs.Loads.{Loads, Reads, ReadsAll, Tells};
@@ -30,7 +31,9 @@ fn read<F: Shelf>(
     name: &Text,
 ) -> Result<(), LoadError>
     requires few { length bundle.old.files ≤ FILE_COUNT_LIMIT }
+    requires lines { LinesAscend bundle.old.files }
     ensures reads { IfSome (F.files shelf.old) (λ files. Tells (Reads files name.now bundle.old) (outcome_of result bundle.new)) }
+    ensures lines { OnOk result (LinesAscend bundle.new.files) }
     ensures few { OnOk result (length bundle.new.files ≤ FILE_COUNT_LIMIT) }
     ensures more { OnOk result (length bundle.old.files ≤ length bundle.new.files) }
     ensures same { F.files shelf.new ≡ F.files shelf.old }
@@ -56,7 +59,9 @@ fn read_all<F: Shelf>(
     names: &[Text],
 ) -> Result<(), LoadError>
     requires few { length bundle.old.files ≤ FILE_COUNT_LIMIT }
+    requires lines { LinesAscend bundle.old.files }
     ensures reads { IfSome (F.files shelf.old) (λ files. Tells (ReadsAll files names.now bundle.old) (outcome_of result bundle.new)) }
+    ensures lines { OnOk result (LinesAscend bundle.new.files) }
     ensures few { OnOk result (length bundle.new.files ≤ FILE_COUNT_LIMIT) }
     ensures more { OnOk result (length bundle.old.files ≤ length bundle.new.files) }
     ensures same { F.files shelf.new ≡ F.files shelf.old }
@@ -79,6 +84,7 @@ fn read_all<F: Shelf>(
 /// or want of memory.
 pub fn load<F: Shelf>(alloc: Global, shelf: &mut F, root: &str) -> Result<Bundle, LoadError>
     ensures loads { IfSome (F.files shelf.old) (λ files. Loads files root.now result) }
+    ensures lines { IfOk result (λ bundle. LinesAscend bundle.files) }
     ensures same { F.files shelf.new ≡ F.files shelf.old }
     ensures later { F.faults shelf.old ≤ F.faults shelf.new }
     ensures failed { result ≡ Err LoadError.Failed → Rose (F.faults shelf.old) (F.faults shelf.new) }

@@ -1,9 +1,9 @@
 // Programs in memory, what they load to, and each refusal.
-use crate::{FILE_COUNT_LIMIT, LoadError, load, place_of};
+use crate::{FILE_COUNT_LIMIT, LoadError, load};
 use std::alloc::{AllocError, Global};
 use std::test::Fail;
 use sv_ast::{Bundle, FileTree};
-use sv_base::{FILE_LIMIT, Name, line_col};
+use sv_base::{FILE_LIMIT, Name};
 use sv_io::MemShelf;
 
 type Source = (&'static str, &'static str);
@@ -208,23 +208,6 @@ fn a_file_of_the_limit_is_read(rt: HostRuntime) -> Result<(), Fail> {
         answer(alloc, &mut more, "App.svelte")?.as_str(),
         "too long App.svelte"
     );
-    Ok(())
-}
-
-#[test]
-fn a_place_is_told_by_the_lines(rt: HostRuntime) -> Result<(), Fail> {
-    let alloc = rt.alloc();
-    let text = "<p>\n\na</p>\n";
-    let mut shelf = shelf(alloc, &[("App.svelte", text)], &[])?;
-    let bundle = load(alloc, &mut shelf, "App.svelte")?;
-    let files = bundle.files.as_slice();
-    assert!(rt; files.len() == 1);
-    let lines = &files[0].lines;
-    assert_eq!(rt; lines.as_slice(), [0, 4, 5, 11].as_slice());
-    for at in 0..12 {
-        let (line, column) = line_col(text.as_bytes(), at);
-        assert_eq!(rt; place_of(lines, at), (line as usize, column as usize));
-    }
     Ok(())
 }
 

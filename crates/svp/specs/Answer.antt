@@ -5,7 +5,7 @@ use Rattle.sv_ast.specs.declared.files.SourceFile.{SourceFile}
 use Rattle.sv_ast.specs.declared.refusals.Kind.TheVariants as kind
 use Rattle.sv_check.specs.Checked.{IsFirstMistake, IsClean}
 use Rattle.sv_io.specs.Files.{Files, find_file}
-use Rattle.sv_load.specs.Lines.{line_in, column_in}
+use Rattle.sv_lines.specs.Lines.{line_in, column_in}
 use Rattle.sv_load.specs.Loads.{Reads, nothing as no_files}
 use Rattle.sv_load.specs.declared.refusals.LoadError.{LoadError}
 use Rattle.sv_load.specs.declared.refusals.LoadError.TheVariants as load

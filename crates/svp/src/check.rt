@@ -2,6 +2,7 @@
 ghost use Rattle.std.specs.Prelude.{◌≡◌, ◌≤◌, ◌<◌, Some, length, slice_get, string_bytes, IfOk, IfSome};
 ghost use Rattle.sv_ast.specs.declared.files.SourceFile.{SourceFile as AnySource};
 ghost use Rattle.sv_io.specs.Faults.{Rose};
+ghost use Rattle.sv_lines.specs.Lines.{LinesAscend};
 ghost use Rattle.svp.specs.Answer.{IsChecked, load_answer, mistake_answer};
 ghost use Rattle.svp.specs.Job.{answer_of, refusal_of, IsPlayable};
 ghost use Rattle.sv_load.specs.declared.refusals.LoadError.TheVariants as LoadError;
@@ -13,7 +14,8 @@ use sv_ast::{Bundle, Kind};
 use sv_base::Text;
 use sv_check::check;
 use sv_io::{Shelf, ShelfError};
-use sv_load::{LoadError, load, place_of};
+use sv_lines::place_of;
+use sv_load::{LoadError, load};
 use sv_resolve::{CheckError, CheckRefusal};
 
 /// The answer to `check ROOT`: the program is loaded and then checked.
@@ -79,7 +81,8 @@ fn no_tree(file: String, kind: Kind, line: usize, column: usize) -> Refusal
 
 // The refusal of a program with a mistake.
 fn refused(alloc: Global, bundle: &Bundle, mistake: &CheckRefusal) -> Result<Refusal, AllocError>
-    requires { mistake.now.at.file < length bundle.now.files }
+    requires there { mistake.now.at.file < length bundle.now.files }
+    requires lines { LinesAscend bundle.now.files }
     ensures { IfOk result (λ refusal. (file : AnySource) → slice_get bundle.now.files mistake.now.at.file ≡ Some file → refusal_of refusal ≡ mistake_answer file mistake.now) }
 {
     let file = &bundle.files.as_slice()[mistake.at.file as usize];

@@ -13,4 +13,4 @@ returns-in-Err-Refused-clause-holds c =
 
 pub returns-clause-holds : goal.returns-clause-holds
 returns-clause-holds c =
-    holds-tree c.args.number c.args.name.now c.args.bytes.now c.args.names.now c.parse.new.names _ _ _ c.in-Ok.ensures c.in_ok-lines.ensures c.in_ok-name.ensures
+    holds-tree c.args.number c.args.name.now c.args.bytes.now c.args.names.now c.parse.new.names _ _ _ c.in-Ok.ensures c.in_ok-lines.ensures.lines c.in_ok-name.ensures

@@ -26,6 +26,7 @@ read-returns-clause-reads g t c =
 pub read_all-loop-name-init : goal.read_all-loop-name-init
 read_all-loop-name-init g t c = record {
   told = IfSome-always (g.F.Shelf.files c.args.shelf.now) (λ files. done c.args.bundle.now);
+  lines = c.requires.lines;
   few = c.requires.few;
   more = omega arith;
   same = refl;
@@ -44,6 +45,7 @@ read_all-loop-name-preserved g t c = record {
   told =
       read_up_to-next (g.F.Shelf.files c.args.shelf.now) (g.F.Shelf.files c.loop-name.shelf) c.args.names.now c.loop-name.name-index c.name-item.result c.args.bundle.now c.loop-name.bundle _
       c.loop-name-test.true c.name-item.is c.loop-name.invariant.told c.loop-name.invariant.same c.in_ok-read.ensures.reads;
+  lines = c.in_ok-read.ensures.lines;
   few = c.in_ok-read.ensures.few;
   more = omega (arith, c.in_ok-read.ensures.more, c.loop-name.invariant.more);
   same = c.in_ok-read.ensures.same ∙ c.loop-name.invariant.same;

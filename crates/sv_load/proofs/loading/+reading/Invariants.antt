@@ -1,4 +1,5 @@
 use Rattle.std.proofs.Common.{◌≡◌, ◌≤◌, ◌+◌, ◌-◌, ◌*◌, length}
+use Rattle.sv_lines.specs.Lines.{LinesAscend}
 use Rattle.sv_load.proofs.Reading.{ReadUpTo}
 use Rattle.sv_load.proofs.loading.+reading.Given as goal
 
@@ -11,6 +12,7 @@ decreases-read_all g l = 2 * (64 - length l.bundle.now.files) + 1
 abbrev pub invariant-read_all-loop-name : goal.invariant-read_all-loop-name
 invariant-read_all-loop-name g l = record {
   told : ReadUpTo (g.F.Shelf.files l.fn.shelf) l.names l.name-index l.fn.bundle l.bundle;
+  lines : LinesAscend l.bundle.files;
   few : length l.bundle.files ≤ 64;
   more : length l.fn.bundle.files ≤ length l.bundle.files;
   same : g.F.Shelf.files l.shelf ≡ g.F.Shelf.files l.fn.shelf;

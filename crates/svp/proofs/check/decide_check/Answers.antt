@@ -13,8 +13,8 @@ pub returns-in-Ok-check-clause-answer : goal.returns-in-Ok-check-clause-answer
 returns-in-Ok-check-clause-answer g c =
     calls-clean (g.F.Shelf.files c.args.shelf.now) c.args.root.now c.in-Ok.bundle c.in-Ok-check.ensures.clean c.in-Ok.ensures.loads
 
-pub refused-requires : goal.refused-requires
-refused-requires g c = file_within c.in-Ok.bundle c.in-Err-Refused.mistake (subst (IsCause c.in-Ok.bundle) c.in-Err-Refused.field-0-is c.in-Err-Refused.ensures.refused)
+pub refused-requires-clause-there : goal.refused-requires-clause-there
+refused-requires-clause-there g c = file_within c.in-Ok.bundle c.in-Err-Refused.mistake (subst (IsCause c.in-Ok.bundle) c.in-Err-Refused.field-0-is c.in-Err-Refused.ensures.refused)
 
 pub returns-in-Err-Refused-clause-answer : goal.returns-in-Err-Refused-clause-answer
 returns-in-Err-Refused-clause-answer g c =

@@ -1,6 +1,6 @@
 use Rattle.std.proofs.Common.{◌≡◌, take}
-use Rattle.sv_load.specs.Lines.{line_starts}
-use Rattle.sv_load.proofs.lines.line_starts.Given as goal
+use Rattle.sv_lines.specs.Lines.{line_starts}
+use Rattle.sv_lines.proofs.lines.line_starts.Given as goal
 
 abbrev pub invariant-loop-byte : goal.invariant-loop-byte
 invariant-loop-byte l = record {

@@ -1,13 +1,15 @@
 -- The places where lines begin, as a text grows by a byte.
-use Rattle.std.proofs.Common.{◌≡◌, ◌≢◌, ◌<◌, ◌≤◌, ℕ, zero, suc, ◌+◌, ◌-◌, List, [], ◌∷◌, ◌++◌, length, get_or, take, Bool, true, false, not, refl, ap, sym, ◌∙◌, inl, inr, arith, append-nil, subst}
+use Rattle.std.proofs.Common.{◌≡◌, ◌≢◌, ◌<◌, ◌≤◌, ℕ, zero, suc, ◌+◌, ◌-◌, ◌&&◌, List, [], ◌∷◌, ◌++◌, length, get_or, take, Bool, true, false, not, refl, ap, sym, ◌∙◌, inl, inr, arith, append-nil, subst, ltb}
 use Rattle.std.specs.Prelude.{if◌then◌else◌}
 use Rattle.std.specs.List.{suffix_len, All}
+use Rattle.std.specs.Cmp.Derive.{both_true}
+use Rattle.std.proofs.lemmas.Bool.{lt-ltb, ltb-true}
 use Rattle.std.proofs.lemmas.Bool.Decides.{eqb_tells}
 use Rattle.std.proofs.lemmas.List.{take_more, length_push, get_or_push, length-take-le, length-drop}
 use Rattle.std.proofs.lemmas.List.Elements.{All-nil, All-cons, All-push, All-weaker}
 use Rattle.std.proofs.lemmas.List.Sums.{suffix_len-le-length, suffix_len-take_no, suffix_len-take_yes, count_by_more_yes, count_by_more_no}
 use Rattle.sv_base.specs.Place.{is_line_feed, last_line, line_of}
-use Rattle.sv_load.specs.Lines.{behind_feeds, line_starts}
+use Rattle.sv_lines.specs.Lines.{behind_feeds, line_starts, ascends}
 
 -- an item before a list, or none
 chosen : (t : Bool) (x : ℕ) (p q r : List ℕ) → p ≡ q ++ r → (if t then x ∷ p else p) ≡ (if t then x ∷ q else q) ++ r
@@ -146,3 +148,40 @@ starts-feed bytes i at lines after h e same before pushed =
 pub starts-other : (bytes : List ℕ) (i : ℕ) (lines after : List ℕ) → i < length bytes → is_line_feed (get_or bytes i 0) ≡ false → lines ≡ line_starts (take i bytes)
     → after ≡ lines → after ≡ line_starts (take (i + 1) bytes)
 starts-other bytes i lines after h e before same = same ∙ before ∙ sym (line_starts-other bytes i h e)
+
+-- ---- lines ascend
+
+left : (a b : Bool) → (a && b) ≡ true → a ≡ true
+left true b e = refl
+left false b e = e
+
+right : (a b : Bool) → (a && b) ≡ true → b ≡ true
+right true b e = e
+right false b e = cc
+
+ascends-lower : (at next : ℕ) (starts : List ℕ) → at ≤ next → ascends (next ∷ starts) ≡ true → ascends (at ∷ starts) ≡ true
+ascends-lower at next [] h up = refl
+ascends-lower at next (s ∷ starts) h up =
+    let above = ltb-true next s (left (ltb next s) (ascends (s ∷ starts)) up) in
+    both_true (lt-ltb at s (omega arith)) (right (ltb next s) (ascends (s ∷ starts)) up)
+
+ascends-chosen : (t : Bool) (at : ℕ) (later : List ℕ) → ascends (suc at ∷ later) ≡ true → ascends (at ∷ (if t then suc at ∷ later else later)) ≡ true
+ascends-chosen true at later up = both_true (lt-ltb at (suc at) (omega arith)) up
+ascends-chosen false at later up = ascends-lower at (suc at) later (omega arith) up
+
+ascends-behind : (at : ℕ) (bytes : List ℕ) → ascends (at ∷ behind_feeds at bytes) ≡ true
+ascends-behind at [] = refl
+ascends-behind at (b ∷ bytes) = ascends-chosen (is_line_feed b) at (behind_feeds (suc at) bytes) (ascends-behind (suc at) bytes)
+
+-- each line of a text begins behind the one before
+pub ascends-line_starts : (bytes : List ℕ) → ascends (line_starts bytes) ≡ true
+ascends-line_starts bytes = ascends-behind 0 bytes
+
+-- neighbours in places that ascend
+pub ascends-next : (starts : List ℕ) (k d : ℕ) → ascends starts ≡ true → k + 1 < length starts → get_or starts k d ≤ get_or starts (k + 1) d
+ascends-next [] k d up h = absurd (omega arith)
+ascends-next (s ∷ []) k d up h = absurd (omega arith)
+ascends-next (s ∷ t ∷ starts) zero d up h = omega (arith, ltb-true s t (left (ltb s t) (ascends (t ∷ starts)) up))
+ascends-next (s ∷ t ∷ starts) (suc k) d up h =
+    let next : suc k + 1 ≡ suc (k + 1) = omega arith in
+    rw next (ascends-next (t ∷ starts) k d (right (ltb s t) (ascends (t ∷ starts)) up) (omega arith))

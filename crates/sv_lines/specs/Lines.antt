@@ -1,5 +1,6 @@
 -- Where the lines of a text begin.
-use Rattle.std.specs.Prelude.{◌≡◌, ℕ, suc, ◌+◌, ◌-◌, List, [], ◌∷◌, filter, length, nat_le, if◌then◌else◌}
+use Rattle.std.specs.Prelude.{◌≡◌, ℕ, suc, ◌+◌, ◌-◌, Bool, true, ◌&&◌, List, [], ◌∷◌, All, filter, length, nat_le, nat_lt, if◌then◌else◌}
+use Rattle.sv_ast.specs.declared.files.SourceFile.{SourceFile}
 use Rattle.sv_base.specs.Place.{is_line_feed, line_of, column_of}
 
 -- the places behind the line feeds of a text that begins at a place
@@ -10,6 +11,16 @@ behind_feeds at (b ∷ bytes) = if is_line_feed b then suc at ∷ behind_feeds (
 -- the first place of a text, and those behind its line feeds
 abbrev pub line_starts : List ℕ → List ℕ
 line_starts bytes = 0 ∷ behind_feeds 0 bytes
+
+-- whether each line begins behind the one before
+abbrev pub ascends : List ℕ → Bool
+ascends [] = true
+ascends (start ∷ []) = true
+ascends (start ∷ next ∷ more) = nat_lt start next && ascends (next ∷ more)
+
+-- the lines of each of these files ascend
+abbrev pub LinesAscend : List SourceFile → Type 0
+LinesAscend files = All (λ file. ascends file.lines ≡ true) files
 
 -- ---- places, by the lines of a file
 
