@@ -12,8 +12,6 @@ mod life;
 mod markup;
 mod program;
 mod stores;
-#[cfg(test)]
-mod tests;
 mod waiting;
 
 pub use checked::{Checked, CheckedComponent};

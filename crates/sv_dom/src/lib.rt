@@ -25,10 +25,6 @@ use sv_nodes::{
     has_typed, make_node, move_node, number_in, remove_in, write_attribute, write_dropped,
     write_text, write_typed,
 };
-
-#[cfg(test)]
-mod tests;
-
 pub use sv_tokens::{Attr, Attribute, Change, Typed, What};
 
 /// A node of a page, named by its key. It is good until the node is removed.

@@ -7,6 +7,5 @@ pub mod Ahead
 pub mod Lists
 pub mod Rules
 pub mod Below
-pub mod Alone
 pub mod Grammar
 pub mod Laws

@@ -16,8 +16,6 @@ mod lists;
 mod operators;
 mod quotients;
 mod suffixes;
-#[cfg(test)]
-mod tests;
 mod whole;
 
 pub use below::Enclosed;

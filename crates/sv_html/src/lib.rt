@@ -12,8 +12,6 @@ ghost use Rattle.sv_html.specs.Html.{html};
 mod attributes;
 mod escape;
 mod node;
-#[cfg(test)]
-mod tests;
 mod void;
 
 use node::{push_after, push_before};

@@ -5,8 +5,6 @@ mod cycles;
 mod files;
 mod given;
 mod origin;
-#[cfg(test)]
-mod tests;
 mod unknown;
 mod words;
 

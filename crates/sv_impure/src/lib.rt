@@ -3,8 +3,6 @@
 
 mod attributes;
 mod built;
-#[cfg(test)]
-mod tests;
 mod walk;
 
 pub use built::add_built_in;

@@ -10,8 +10,6 @@ mod cells;
 mod files;
 mod names;
 mod rows;
-#[cfg(test)]
-mod tests;
 mod walk;
 
 use files::push_files;

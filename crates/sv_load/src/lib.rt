@@ -7,8 +7,6 @@ mod imports;
 mod laws;
 mod loading;
 mod refusals;
-#[cfg(test)]
-mod tests;
 
 pub use file::FILE_COUNT_LIMIT;
 pub use laws::one_outcome;

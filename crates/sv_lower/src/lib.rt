@@ -5,8 +5,6 @@ mod expressions;
 mod lists;
 mod names;
 mod statements;
-#[cfg(test)]
-mod tests;
 
 pub use expressions::lower_expr;
 pub use statements::lower_stmts;

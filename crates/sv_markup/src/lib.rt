@@ -10,14 +10,8 @@ mod knot;
 mod laws;
 mod leaves;
 mod pieces;
-#[cfg(test)]
-mod refusal_tests;
 mod rules;
-#[cfg(test)]
-mod sources;
 mod tags;
-#[cfg(test)]
-mod tests;
 mod void;
 
 pub use calls::{parse_component, parse_module};

@@ -4,8 +4,6 @@
 mod lists;
 mod once;
 mod scopes;
-#[cfg(test)]
-mod tests;
 mod uses;
 
 pub use lists::{assigned_names, free_names, read_names};

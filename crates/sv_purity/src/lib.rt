@@ -3,8 +3,6 @@
 
 mod pure;
 mod scope;
-#[cfg(test)]
-mod tests;
 mod words;
 
 pub use pure::{first_impurity, is_pure};

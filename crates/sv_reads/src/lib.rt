@@ -4,8 +4,6 @@
 mod around;
 mod looks;
 mod names;
-#[cfg(test)]
-mod tests;
 
 pub use around::LocalScope;
 pub use looks::looked_at;

@@ -8,8 +8,6 @@ mod mistakes;
 mod places;
 mod refusals;
 mod table;
-#[cfg(test)]
-mod tests;
 
 pub use calls::{first_mistake, resolve, resolve_module};
 pub use cells::{Scopes, is_store, is_variable, is_view, scopes_of};

@@ -8,8 +8,6 @@ mod found;
 mod local_names;
 mod markup;
 mod script;
-#[cfg(test)]
-mod tests;
 mod top;
 mod words;
 

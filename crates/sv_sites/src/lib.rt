@@ -6,8 +6,6 @@ mod content;
 mod hidden;
 mod site;
 mod tags;
-#[cfg(test)]
-mod tests;
 mod walk;
 mod words;
 

@@ -4,8 +4,6 @@
 mod children;
 mod mistakes;
 mod sheets;
-#[cfg(test)]
-mod tests;
 
 pub use children::Children;
 pub use mistakes::{bad_binds, unknown_props, unknown_slots};

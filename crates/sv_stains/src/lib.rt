@@ -9,8 +9,6 @@ mod locals;
 mod notes;
 mod signs;
 mod stains;
-#[cfg(test)]
-mod tests;
 mod top;
 
 pub use bundle::pure_functions;

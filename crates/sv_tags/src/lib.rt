@@ -10,13 +10,9 @@ mod directives;
 mod holes;
 mod laws;
 mod modifiers;
-#[cfg(test)]
-mod opening_tests;
 mod openings;
 mod raw;
 mod taken;
-#[cfg(test)]
-mod tests;
 mod texts;
 mod values;
 

@@ -1,0 +1,150 @@
+// The pure functions of small programs.
+use std::alloc::Global;
+use std::test::Fail;
+use sv_ast::{
+    Bundle, Component, FileTree, Files, LineStarts, Module, Nodes, Ref, RefList, Script, SourceFile,
+};
+use sv_base::{Names, NoMemory, Text};
+use sv_script::{parse_module_script, parse_script};
+use sv_stains::pure_functions;
+
+fn component(alloc: Global, names: &mut Names, text: &str) -> Result<FileTree, Fail> {
+    let bytes = text.as_bytes();
+    if bytes.len() >= 100_000 {
+        return Err("too long".into());
+    }
+    let script = parse_script(alloc, names, 0, bytes, 0, bytes.len() as u32)?;
+    let nodes = Nodes::new(alloc);
+    Ok(FileTree::Component(Component {
+        file: 0,
+        script,
+        nodes,
+    }))
+}
+
+fn module(alloc: Global, names: &mut Names, text: &str) -> Result<FileTree, Fail> {
+    let bytes = text.as_bytes();
+    if bytes.len() >= 100_000 {
+        return Err("too long".into());
+    }
+    let script: Script = parse_module_script(alloc, names, 0, bytes)?;
+    Ok(FileTree::Module(Module { file: 0, script }))
+}
+
+fn source(alloc: Global, name: &str, tree: FileTree) -> Result<SourceFile, NoMemory> {
+    Ok(SourceFile {
+        name: Text::new(alloc, name)?,
+        lines: LineStarts::new(alloc),
+        tree,
+    })
+}
+
+// The texts of names, each with a space behind it.
+fn spelled(alloc: Global, names: &Names, list: &RefList) -> Result<String, Fail> {
+    let mut spelled = String::new(alloc);
+    for name in list.as_slice() {
+        if let Ref::Plain(name) = name {
+            spelled.push_str(names.text(*name).unwrap_or("?"))?;
+            spelled.push_str(" ")?;
+        }
+    }
+    Ok(spelled)
+}
+
+// The pure functions of a component with this script, which may import from `./m.js`.
+fn pure(alloc: Global, script: &str, given: &str) -> Result<String, Fail> {
+    let mut names = Names::empty(alloc);
+    let mut files = Files::new(alloc);
+    let tree = module(alloc, &mut names, given)?;
+    files.push(source(alloc, "m.js", tree)?)?;
+    let tree = component(alloc, &mut names, script)?;
+    files.push(source(alloc, "App.svelte", tree)?)?;
+    let bundle = Bundle { names, files };
+    let lists = pure_functions(alloc, &bundle)?;
+    match lists.as_slice().last() {
+        Some(list) => spelled(alloc, &bundle.names, list),
+        None => Err("no files".into()),
+    }
+}
+
+// Scripts, and the pure functions of each.
+const SCRIPTS: [(&str, &str); 28] = [
+    ("function f(a) { return a + 1 }", "f "),
+    ("const f = a => a + 1", "f "),
+    ("let f = a => a + 1", ""),
+    ("let n = 0\nfunction f() { return n }", ""),
+    ("export let n = 0\nconst f = () => n", ""),
+    ("$: n = 1\nconst f = () => n", ""),
+    ("const n = 1\nconst f = () => n", "f "),
+    ("const s = 1\nconst f = () => $s", ""),
+    ("let n = 0\nfunction f() { n = 1 }", ""),
+    ("function f() { let n = 0\nn = 1\nn += 1\nreturn n }", "f "),
+    ("let n = 0\nfunction f(n) { n = 1 }", "f "),
+    ("let n = 0\nconst f = () => () => n", ""),
+    (
+        "let n = 0\nconst f = () => { const g = () => n\nreturn 1 }",
+        "",
+    ),
+    (
+        "let n = 0\nfunction h() { return n }\nfunction g() { return h() }\nfunction f() { return g() }\nfunction e() { return 1 }",
+        "e ",
+    ),
+    (
+        "let n = 0\nconst a = () => b()\nconst b = () => c()\nconst c = () => n",
+        "",
+    ),
+    ("function f() { f() }", "f "),
+    ("let n = 0\nconst g = () => n\nconst f = l => l.map(g)", ""),
+    ("const g = x => x\nconst f = l => l.map(g)", "g f "),
+    (
+        "let n = 0\nconst g = () => n\nconst f = l => l.slice(g)",
+        "f ",
+    ),
+    ("function f(n) { return n > 0 ? f(n - 1) : 0 }", "f "),
+    (
+        "let n = 0\nfunction f() { return g() }\nfunction g() { f()\nreturn n }",
+        "",
+    ),
+    ("const f = a => console.log(a)", ""),
+    ("const f = a => a()", ""),
+    ("const f = a => Math.abs(a) + String(a)", "f "),
+    ("const String = 1\nconst f = a => String(a)", ""),
+    (
+        "const f = l => l.map(x => { let s = x\ns = 1\nreturn s })",
+        "",
+    ),
+    ("const f = l => l.map(x => () => { x = 1 })", "f "),
+    (
+        "const f = l => l.filter(x => x.trim()).map(x => x + 1)",
+        "f ",
+    ),
+];
+
+#[test]
+fn a_function_is_pure_unless_a_chain_leads_to_a_stain(rt: HostRuntime) -> Result<(), Fail> {
+    let alloc = rt.alloc();
+    for (script, expected) in SCRIPTS {
+        let pure = pure(alloc, script, "")?;
+        assert_eq!(rt; pure.as_str(), expected);
+    }
+    Ok(())
+}
+
+const GIVEN: &str =
+    "export const a = x => x\nexport function b() { return c() }\nconst c = () => console.log(1)\nconst d = x => x\nexport const e = 1";
+
+#[test]
+fn imported_functions_are_known_by_their_local_names(rt: HostRuntime) -> Result<(), Fail> {
+    let alloc = rt.alloc();
+    for (script, expected) in [
+        ("import { a as k, b } from './m.js'", "k "),
+        ("import { a } from './m.js'\nconst f = x => a(x)", "f a "),
+        ("import { b as a } from './m.js'\nconst f = x => a(x)", ""),
+        ("import { d, e } from './m.js'\nconst f = x => d(x)", ""),
+        ("import { a } from './n.js'\nconst f = x => a(x)", ""),
+    ] {
+        let pure = pure(alloc, script, GIVEN)?;
+        assert_eq!(rt; pure.as_str(), expected);
+    }
+    Ok(())
+}

@@ -1,0 +1,7 @@
+//! Page trees: small ones that are built, changed and printed.
+#![tactic(auto)]
+
+#[cfg(test)]
+mod dom;
+#[cfg(test)]
+mod html;
