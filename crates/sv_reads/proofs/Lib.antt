@@ -1,3 +1,3 @@
 pub mod Append
 pub mod Onward
-pub mod Numbers
+pub mod Counting

@@ -7,4 +7,4 @@ mod names;
 
 pub use around::LocalScope;
 pub use looks::looked_at;
-pub use names::reading;
+pub use names::{numbers, reading};

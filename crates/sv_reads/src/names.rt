@@ -65,8 +65,9 @@ pub(crate) fn name_of(name: Ref) -> Name
     }
 }
 
-// The numbers of the cells that are among some names.
-fn numbers(alloc: Global, cells: &[Ref], names: &[Ref]) -> Result<CellList, NoMemory>
+/// The numbers of the cells that are among some names, ascending. `cells` are those of the component, at most 256. `NoMemory` comes at want
+/// of memory alone.
+pub fn numbers(alloc: Global, cells: &[Ref], names: &[Ref]) -> Result<CellList, NoMemory>
     requires { length cells.now ≤ 256 }
     ensures { IfOk result (λ numbers. numbers ≡ spec.numbers cells.now names.now) }
 {

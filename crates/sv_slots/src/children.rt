@@ -54,9 +54,10 @@ impl Children {
     }
 }
 
-/// The files that the names of a file's tags stand for.
+/// The files that the names of a file's tags stand for, where these statements are its script: an import without braces gives its name to
+/// the file that it names, if that is one of `files`. `NoMemory` comes at want of memory alone.
 #[tactic(auto, using(crate::proofs::Naming::points_cons))]
-pub(crate) fn children_of(
+pub fn children_of(
     alloc: Global,
     files: &[SourceFile],
     stmts: &[Stmt],

@@ -1,5 +1,5 @@
 use Rattle.std.proofs.Common.{◌∙◌}
-use Rattle.sv_reads.proofs.Numbers.{among_from_onward}
+use Rattle.sv_reads.proofs.Counting.{among_from_onward}
 use Rattle.sv_reads.proofs.looks.in_order.Goals as goal
 
 pub loop-n-preserved : goal.loop-n-preserved
