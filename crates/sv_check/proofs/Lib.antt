@@ -3,5 +3,6 @@ pub mod Once
 pub mod Waits
 pub mod Unique
 pub mod OneMistake
+pub mod Few
 pub mod Whole
 pub mod Progress

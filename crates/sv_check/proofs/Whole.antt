@@ -39,6 +39,11 @@ none_wait kind front (place ∷ places) e =
     let none = ap length e in
     absurd (omega arith)
 
+-- where there is nothing, nothing stands in front
+pub none_before : (front back : List CheckRefusal) → front ++ back ≡ [] → front ≡ []
+none_before [] back e = refl
+none_before (x ∷ front) back e = let none = ap length e in absurd (omega arith)
+
 -- what is known of a file stands among what is known of all
 pub sheet_there : (bundle : Bundle) (n : ℕ) (source : SourceFile) → slice_get bundle.files n ≡ Some source → slice_get (sheets bundle) n ≡ Some (sheet bundle.names bundle.files source)
 sheet_there bundle n source there = slice_get-map (sheet bundle.names bundle.files) bundle.files n ∙ ap (option_map (sheet bundle.names bundle.files)) there

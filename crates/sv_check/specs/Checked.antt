@@ -1,5 +1,5 @@
 -- What a program is refused for, and what is told of one that isn't.
-use Rattle.std.specs.Prelude.{◌≡◌, ℕ, ◌<◌, List, [], Some, length, slice_get}
+use Rattle.std.specs.Prelude.{◌≡◌, ℕ, ◌<◌, ◌≤◌, List, [], Some, length, slice_get}
 use Rattle.sv_ast.specs.declared.files.Bundle.{Bundle}
 use Rattle.sv_ast.specs.declared.files.FileTree.{FileTree}
 use Rattle.sv_ast.specs.declared.files.FileTree.TheVariants as tree
@@ -8,7 +8,7 @@ use Rattle.sv_ast.specs.declared.names.Ref.{Ref}
 use Rattle.sv_base.specs.declared.span.Span.{Span}
 use Rattle.sv_imports.specs.Cycles.{AreCycles}
 use Rattle.sv_imports.specs.Imports.{statements_of}
-use Rattle.sv_order.specs.ReactiveOrder.{IsOrder}
+use Rattle.sv_order.specs.ReactiveOrder.{IsOrder, IsEachOnce}
 use Rattle.sv_resolve.specs.declared.cells.Scopes.{Scopes}
 use Rattle.sv_resolve.specs.declared.refusals.CheckError.{CheckError}
 use Rattle.sv_resolve.specs.declared.refusals.CheckError.TheVariants.{Refused, NoMemory}
@@ -70,10 +70,13 @@ abbrev pub told_scopes : FileTree → Scopes
 told_scopes (tree.Component c) = scopes (component_scopes c).top
 told_scopes (tree.Module m) = record { cells = []; constants = [] }
 
--- what is told of a file: those, and the order in which its reactive statements run, of which a module has none
+-- what is told of a file: those, of which there are few enough, and the order in which its reactive statements run, each once. A module
+-- has none of either
 pub record IsChecked (source : SourceFile) (c : CheckedComponent) : Type 0 where
   pub scopes_are : c.scopes ≡ told_scopes source.tree
+  pub few : length c.scopes.cells ≤ 248
   pub order_is : IsOrder (reads (statements_of source.tree)) c.order.items
+  pub once : IsEachOnce (reads (statements_of source.tree)) c.order.items
 
 -- what is told of each file of a program
 pub record AreChecked (bundle : Bundle) (components : List CheckedComponent) : Type 0 where

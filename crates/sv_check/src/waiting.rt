@@ -1,6 +1,6 @@
 // Reactive statements that wait for one another, and the order in which others run.
 ghost use Rattle.std.specs.Prelude.{◌≡◌, [], map, IfOk};
-ghost use Rattle.sv_order.specs.ReactiveOrder.{IsOrder};
+ghost use Rattle.sv_order.specs.ReactiveOrder.{IsOrder, IsEachOnce};
 ghost use Rattle.sv_check.specs.Waiting as spec;
 
 use std::alloc::Global;
@@ -21,6 +21,7 @@ pub(crate) struct Run {
 pub(crate) fn run_of(alloc: Global, stmts: &[Stmt]) -> Result<Run, NoMemory>
     ensures waiting { IfOk result (λ run. spec.AreWaiting stmts.now run.waiting) }
     ensures order { IfOk result (λ run. run.waiting ≡ [] → IsOrder (spec.reads stmts.now) run.order.items) }
+    ensures once { IfOk result (λ run. run.waiting ≡ [] → IsEachOnce (spec.reads stmts.now) run.order.items) }
 {
     let reads = reads_of(alloc, stmts)?;
     match order(alloc, &reads) {

@@ -18,3 +18,9 @@ returns-in-Err-Cycle-clause-order c = λ h. absurd
     (some_place c.args.stmts.now c.deref.result.now c.in-Err-Cycle.cycle.items c.in_ok-place_at-in-Err-Cycle.field-0 (c.deref.ensures.value ∙ c.in_ok-reads.ensures)
     (subst (IsCause c.deref.result.now) c.in-Err-Cycle.field-0-is c.in-Err-Cycle.ensures.cycle)
     (c.in_ok-place_at-in-Err-Cycle.ensures ∙ ap (first_place c.args.stmts.now) c.deref-in-Err-Cycle.ensures.value) h)
+
+pub returns-in-Err-Cycle-clause-once : goal.returns-in-Err-Cycle-clause-once
+returns-in-Err-Cycle-clause-once c = λ h. absurd
+    (some_place c.args.stmts.now c.deref.result.now c.in-Err-Cycle.cycle.items c.in_ok-place_at-in-Err-Cycle.field-0 (c.deref.ensures.value ∙ c.in_ok-reads.ensures)
+    (subst (IsCause c.deref.result.now) c.in-Err-Cycle.field-0-is c.in-Err-Cycle.ensures.cycle)
+    (c.in_ok-place_at-in-Err-Cycle.ensures ∙ ap (first_place c.args.stmts.now) c.deref-in-Err-Cycle.ensures.value) h)
