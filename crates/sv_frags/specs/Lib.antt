@@ -1,0 +1,5 @@
+pub mod Makes
+pub mod Around
+pub mod Attributes
+pub mod Frags
+pub mod Pieces
