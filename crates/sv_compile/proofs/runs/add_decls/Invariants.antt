@@ -1,0 +1,6 @@
+use Rattle.std.proofs.Common.{◌≡◌, ◌++◌, drop}
+use Rattle.sv_imports.specs.Given.{decl_names}
+use Rattle.sv_compile.proofs.runs.add_decls.Given as goal
+
+abbrev pub invariant-loop-decl : goal.invariant-loop-decl
+invariant-loop-decl l = l.fn.names ++ decl_names l.decls ≡ l.names ++ decl_names (drop l.decl-index l.decls)

@@ -1,0 +1,4 @@
+pub mod Runs
+pub mod Unbuilt
+pub mod Compile
+pub mod Laws

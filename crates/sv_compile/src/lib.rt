@@ -1,0 +1,11 @@
+//! The compiler: what is left of a checked program, for those that run it or list it.
+#![tactic(auto)]
+
+mod copies;
+mod laws;
+mod program;
+mod runs;
+mod unbuilt;
+
+pub use laws::one_program;
+pub use program::compile;
