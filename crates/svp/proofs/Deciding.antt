@@ -4,15 +4,18 @@ use Rattle.std.specs.Prelude.{Some, None, Result, Ok, Err, IfOk, IfSome, slice_g
 use Rattle.std.proofs.lemmas.Option.{none-some, slice_get_within}
 use Rattle.sv_ast.specs.declared.files.Bundle.{Bundle}
 use Rattle.sv_ast.specs.declared.files.SourceFile.{SourceFile}
-use Rattle.sv_check.specs.Checked.{IsFirstMistake, IsClean}
+use Rattle.sv_check.specs.declared.checked.CheckedComponent.{CheckedComponent}
+use Rattle.sv_check.specs.Checked.{IsFirstMistake, IsClean, AreChecked}
+use Rattle.sv_compile.specs.Compile.{program}
 use Rattle.sv_io.specs.Files.{Files}
+use Rattle.sv_listing.specs.Listing.{listing}
 use Rattle.sv_load.specs.Loads.{Loads, Reads, nothing as no_files}
 use Rattle.sv_load.specs.declared.refusals.LoadError.{LoadError}
 use Rattle.sv_load.specs.declared.refusals.LoadError.TheVariants as load
 use Rattle.sv_resolve.specs.declared.refusals.CheckRefusal.{CheckRefusal}
-use Rattle.svp.specs.Answer.{Answer, usage, missing, source, events, turns, accepted, Fault, fault_text, Found, nothing, refused, holding, IsProgram, AreEvents, IsPlayed, no_program, bad_program, no_events, bad_events, plays, load_answer, mistake_answer, IsChecked, not_loaded, mistaken, clean, IsAnswer, no_form, runs, checks}
+use Rattle.svp.specs.Answer.{Answer, usage, missing, source, events, turns, accepted, listed, Fault, fault_text, Found, nothing, refused, holding, IsProgram, AreEvents, IsPlayed, no_program, bad_program, no_events, bad_events, plays, load_answer, mistake_answer, IsMistaken, IsUnfit, not_loaded, mistaken, IsChecked, unfit, clean, IsPrinted, unfit_too, compiled, IsAnswer, no_form, runs, checks, prints}
 use Rattle.svp.specs.Form.{Form}
-use Rattle.svp.specs.Words.{IsRun, IsCheck, IsNoForm}
+use Rattle.svp.specs.Words.{IsRun, IsCheck, IsPrint, IsNoForm}
 
 -- what holds of every value holds of the one that is told
 pub told : {T : Type 0} (o : Option T) {P : T → Type 0} → ((x : T) → o ≡ Some x → P x) → IfSome o P
@@ -79,13 +82,28 @@ reads_of files root (load.Refused name kind line column) answer is loads = loads
 reads_of files root load.Failed answer is loads = absurd (none-some answer is)
 reads_of files root load.NoMemory answer is loads = absurd (none-some answer is)
 
-pub calls-not_loaded : (o : Option Files) (root : List ℕ) (error : LoadError) (answer : Answer) → load_answer error ≡ Some answer
-    → IfSome o (λ files. Loads files root (Err error)) → IfSome o (λ files. IsChecked files root answer)
-calls-not_loaded o root error answer is = some_weaker o (λ files loads. not_loaded error answer (reads_of files root error answer is loads) is)
+pub unfit-not_loaded : (o : Option Files) (root : List ℕ) (error : LoadError) (answer : Answer) → load_answer error ≡ Some answer
+    → IfSome o (λ files. Loads files root (Err error)) → IfSome o (λ files. IsUnfit files root answer)
+unfit-not_loaded o root error answer is = some_weaker o (λ files loads. not_loaded error answer (reads_of files root error answer is loads) is)
+
+pub unfit-mistaken : (o : Option Files) (root : List ℕ) (bundle : Bundle) (answer : Answer) → IsMistaken bundle answer
+    → IfSome o (λ files. Loads files root (Ok bundle)) → IfSome o (λ files. IsUnfit files root answer)
+unfit-mistaken o root bundle answer is = some_weaker o (λ files loads. mistaken bundle answer loads is)
+
+pub calls-unfit : (o : Option Files) (root : List ℕ) (answer : Answer) → IfSome o (λ files. IsUnfit files root answer) → IfSome o (λ files. IsChecked files root answer)
+calls-unfit o root answer = some_weaker o (λ files is. unfit answer is)
 
 pub calls-clean : (o : Option Files) (root : List ℕ) (bundle : Bundle) → IsClean bundle → IfSome o (λ files. Loads files root (Ok bundle))
     → IfSome o (λ files. IsChecked files root accepted)
 calls-clean o root bundle is = some_weaker o (λ files loads. clean bundle loads is)
+
+pub calls-unfit_too : (o : Option Files) (root : List ℕ) (answer : Answer) → IfSome o (λ files. IsUnfit files root answer) → IfSome o (λ files. IsPrinted files root answer)
+calls-unfit_too o root answer = some_weaker o (λ files is. unfit_too answer is)
+
+pub calls-compiled : (o : Option Files) (root : List ℕ) (bundle other : Bundle) (all : List CheckedComponent) (answer : Answer) → IsClean bundle → other ≡ bundle → AreChecked bundle all
+    → answer ≡ listed (listing (program other all)) → IfSome o (λ files. Loads files root (Ok bundle)) → IfSome o (λ files. IsPrinted files root answer)
+calls-compiled o root bundle other all answer is same checked told = some_weaker o (λ files loads.
+    subst (IsPrinted files root) (sym (told ∙ ap (λ b. listed (listing (program b all))) same)) (compiled bundle all loads is checked))
 
 -- the file of a mistake is there
 pub file_of_mistake : (bundle : Bundle) (m : CheckRefusal) → IsFirstMistake bundle m → (file : SourceFile) × (slice_get bundle.files m.at.file ≡ Some file)
@@ -97,12 +115,11 @@ pub file_within : (bundle : Bundle) (m : CheckRefusal) → IsFirstMistake bundle
 file_within bundle m is =
     let there = file_of_mistake bundle m is in slice_get_within bundle.files m.at.file there.0 there.1
 
-pub calls-mistaken : (o : Option Files) (root : List ℕ) (bundle : Bundle) (m : CheckRefusal) (answer : Answer) → IsFirstMistake bundle m
-    → ((file : SourceFile) → slice_get bundle.files m.at.file ≡ Some file → answer ≡ mistake_answer file m)
-    → IfSome o (λ files. Loads files root (Ok bundle)) → IfSome o (λ files. IsChecked files root answer)
-calls-mistaken o root bundle m answer is told = some_weaker o (λ files loads.
+pub mistaken_is : (bundle : Bundle) (m : CheckRefusal) (answer : Answer) → IsFirstMistake bundle m
+    → ((file : SourceFile) → slice_get bundle.files m.at.file ≡ Some file → answer ≡ mistake_answer file m) → IsMistaken bundle answer
+mistaken_is bundle m answer is told =
     let there = file_of_mistake bundle m is in
-    subst (IsChecked files root) (sym (told there.0 there.1)) (mistaken bundle m there.0 loads is there.1))
+    record { mistake = m; first = is; file = there.0; there = there.1; told = told there.0 there.1 }
 
 -- ---- all words
 
@@ -116,3 +133,7 @@ calls-run o words root file answer run = some_weaker o (λ files played. runs ro
 pub calls-check : (o : Option Files) (words : List (List ℕ)) (root : List ℕ) (answer : Answer) → IsCheck words root
     → IfSome o (λ files. IsChecked files root answer) → IfSome o (λ files. IsAnswer words files answer)
 calls-check o words root answer check = some_weaker o (λ files checked. checks root answer check checked)
+
+pub calls-print : (o : Option Files) (words : List (List ℕ)) (root : List ℕ) (answer : Answer) → IsPrint words root
+    → IfSome o (λ files. IsPrinted files root answer) → IfSome o (λ files. IsAnswer words files answer)
+calls-print o words root answer print = some_weaker o (λ files printed. prints root answer print printed)

@@ -1,17 +1,20 @@
 -- No words and files call for two answers.
-use Rattle.std.proofs.Common.{◌≡◌, ◌<◌, ◌≤◌, ℕ, List, length, Option, refl, ap, sym, subst, ◌∙◌, arith}
+use Rattle.std.proofs.Common.{◌≡◌, ◌<◌, ◌≤◌, ℕ, List, [], get_or, length, Option, refl, ap, sym, subst, ◌∙◌, arith}
 use Rattle.std.specs.Prelude.{Some, None, Result, Ok, Err, slice_get}
 use Rattle.sv_ast.specs.declared.files.Bundle.{Bundle}
 use Rattle.sv_ast.specs.declared.files.SourceFile.{SourceFile}
-use Rattle.sv_check.specs.Checked.{IsFirstMistake, IsClean, IsOneMistake, IsMistakeOrClean}
+use Rattle.sv_check.specs.Checked.{IsClean, AreChecked, IsOneMistake, IsMistakeOrClean}
+use Rattle.sv_compile.specs.Compile.{program}
+use Rattle.sv_compile.specs.Laws.{IsOneProgram}
 use Rattle.sv_io.specs.Files.{Files}
+use Rattle.sv_listing.specs.Listing.{listing}
 use Rattle.sv_load.specs.Laws.{IsOneOutcome}
+use Rattle.sv_load.specs.Loads.{Reads, nothing as no_files}
 use Rattle.sv_load.specs.declared.refusals.LoadError.{LoadError}
-use Rattle.sv_resolve.specs.declared.refusals.CheckRefusal.{CheckRefusal}
-use Rattle.svp.specs.Answer.{Answer, missing, source, events, turns, too_long, not_built, fault_text, Found, nothing, refused, holding, IsFound, IsProgram, AreEvents, IsPlayed, no_program, bad_program, no_events, bad_events, plays, load_answer, mistake_answer, IsChecked, not_loaded, mistaken, clean, IsAnswer, no_form, runs, checks}
+use Rattle.svp.specs.Answer.{Answer, missing, source, events, turns, too_long, not_built, fault_text, Found, nothing, refused, holding, IsFound, IsProgram, AreEvents, IsPlayed, no_program, bad_program, no_events, bad_events, plays, listed, load_answer, mistake_answer, IsMistaken, IsUnfit, not_loaded, mistaken, IsChecked, unfit, clean, IsPrinted, unfit_too, compiled, IsAnswer, no_form, runs, checks, prints}
 use Rattle.svp.specs.EventsFile.{Clicks}
 use Rattle.svp.specs.Form.{Form}
-use Rattle.svp.specs.Words.{IsRun, IsCheck}
+use Rattle.svp.specs.Words.{IsRun, IsOfRoot, IsCheck, IsPrint}
 use Rattle.svp.proofs.Members.{clicks_injective}
 use Rattle.svp.proofs.Spelling.{Spells-unique}
 
@@ -99,6 +102,7 @@ pub record Laws : Type 0 where
   pub outcomes : IsOneOutcome
   pub mistakes : IsOneMistake
   pub cleans : IsMistakeOrClean
+  pub programs : IsOneProgram
 
 -- the answer to what came of loading, where there is no program
 abbrev unloaded : Result Bundle LoadError → Option Answer
@@ -113,30 +117,49 @@ loaded_or_not : {P : Type 0} (bundle : Bundle) (error : LoadError) (answer : Ans
 loaded_or_not bundle error answer same is = none-some (unloaded (Ok bundle)) answer refl (sym (ap unloaded same) ∙ is)
 
 -- the answers for two mistakes of one bundle
-one_mistaken : (laws : Laws) (bundle : Bundle) (m n : CheckRefusal) (file other : SourceFile) → IsFirstMistake bundle m → IsFirstMistake bundle n
-    → slice_get bundle.files m.at.file ≡ Some file → slice_get bundle.files n.at.file ≡ Some other → mistake_answer file m ≡ mistake_answer other n
-one_mistaken laws bundle m n file other p q f g =
-    let same = laws.mistakes bundle m n p q in
-    let files = some-same (slice_get bundle.files n.at.file) file other (sym (ap (λ x. slice_get bundle.files x.at.file) same) ∙ f) g in
-    ap (mistake_answer file) same ∙ ap (λ x. mistake_answer x n) files
+one_mistaken : (laws : Laws) (bundle : Bundle) (a b : Answer) → IsMistaken bundle a → IsMistaken bundle b → a ≡ b
+one_mistaken laws bundle a b one other =
+    let m = one.mistake in
+    let n = other.mistake in
+    let same : m ≡ n = laws.mistakes bundle m n one.first other.first in
+    let files = some-same (slice_get bundle.files n.at.file) one.file other.file (sym (ap (λ x. slice_get bundle.files x.at.file) same) ∙ one.there) other.there in
+    one.told ∙ ap (mistake_answer one.file) same ∙ ap (λ x. mistake_answer x n) files ∙ sym other.told
+
+-- two programs that are loaded are one
+one_bundle : (laws : Laws) (files : Files) (root : List ℕ) (a b : Bundle) → Reads files root no_files (Ok a) → Reads files root no_files (Ok b) → a ≡ b
+one_bundle laws files root a b r r' = ap (bundle_or a) (laws.outcomes files root (Ok a) (Ok b) r r')
+
+IsUnfit-unique : (laws : Laws) (files : Files) (root : List ℕ) (a b : Answer) → IsUnfit files root a → IsUnfit files root b → a ≡ b
+IsUnfit-unique laws files root _ _ (not_loaded e a r s) (not_loaded f b r' s') =
+    some-same (load_answer f) a b (sym (ap unloaded (laws.outcomes files root (Err e) (Err f) r r')) ∙ s) s'
+IsUnfit-unique laws files root _ _ (not_loaded e a r s) (mistaken bundle b r' is) = loaded_or_not bundle e a (laws.outcomes files root (Err e) (Ok bundle) r r') s
+IsUnfit-unique laws files root _ _ (mistaken bundle a r is) (not_loaded e b r' s) = loaded_or_not bundle e b (laws.outcomes files root (Err e) (Ok bundle) r' r) s
+IsUnfit-unique laws files root _ _ (mistaken bundle a r is) (mistaken other b r' is') =
+    one_mistaken laws bundle a b is (subst (λ z. IsMistaken z b) (one_bundle laws files root other bundle r' r) is')
+
+-- a program that is refused has a mistake
+unfit-or-clean : {P : Type 0} (laws : Laws) (files : Files) (root : List ℕ) (a : Answer) (bundle : Bundle) → IsUnfit files root a → Reads files root no_files (Ok bundle) → IsClean bundle → P
+unfit-or-clean laws files root _ bundle (not_loaded e a r s) r' is = loaded_or_not bundle e a (laws.outcomes files root (Err e) (Ok bundle) r r') s
+unfit-or-clean laws files root _ bundle (mistaken other a r m) r' is =
+    let same : bundle ≡ other = one_bundle laws files root bundle other r' r in
+    absurd (laws.cleans other m.mistake (subst IsClean same is) m.first)
 
 IsChecked-unique : (laws : Laws) (files : Files) (root : List ℕ) (a b : Answer) → IsChecked files root a → IsChecked files root b → a ≡ b
-IsChecked-unique laws files root _ _ (not_loaded e a r s) (not_loaded f b r' s') =
-    some-same (load_answer f) a b (sym (ap unloaded (laws.outcomes files root (Err e) (Err f) r r')) ∙ s) s'
-IsChecked-unique laws files root _ _ (not_loaded e a r s) (mistaken bundle m file r' is at) = loaded_or_not bundle e a (laws.outcomes files root (Err e) (Ok bundle) r r') s
-IsChecked-unique laws files root _ _ (not_loaded e a r s) (clean bundle r' is) = loaded_or_not bundle e a (laws.outcomes files root (Err e) (Ok bundle) r r') s
-IsChecked-unique laws files root _ _ (mistaken bundle m file r is at) (not_loaded e a r' s) = loaded_or_not bundle e a (laws.outcomes files root (Err e) (Ok bundle) r' r) s
-IsChecked-unique laws files root _ _ (mistaken bundle m file r is at) (mistaken bundle' m' file' r' is' at') =
-    let same : bundle' ≡ bundle = ap (bundle_or bundle) (laws.outcomes files root (Ok bundle') (Ok bundle) r' r) in
-    one_mistaken laws bundle m m' file file' is (subst (λ z. IsFirstMistake z m') same is') at (subst (λ z. slice_get z.files m'.at.file ≡ Some file') same at')
-IsChecked-unique laws files root _ _ (mistaken bundle m file r is at) (clean bundle' r' is') =
-    let same : bundle' ≡ bundle = ap (bundle_or bundle) (laws.outcomes files root (Ok bundle') (Ok bundle) r' r) in
-    absurd (laws.cleans bundle m (subst IsClean same is') is)
-IsChecked-unique laws files root _ _ (clean bundle r is) (not_loaded e a r' s) = loaded_or_not bundle e a (laws.outcomes files root (Err e) (Ok bundle) r' r) s
-IsChecked-unique laws files root _ _ (clean bundle r is) (mistaken bundle' m file r' is' at) =
-    let same : bundle ≡ bundle' = ap (bundle_or bundle') (laws.outcomes files root (Ok bundle) (Ok bundle') r r') in
-    absurd (laws.cleans bundle' m (subst IsClean same is) is')
-IsChecked-unique laws files root _ _ (clean bundle r is) (clean bundle' r' is') = refl
+IsChecked-unique laws files root _ _ (unfit a is) (unfit b is') = IsUnfit-unique laws files root a b is is'
+IsChecked-unique laws files root _ _ (unfit a is) (clean bundle r c) = unfit-or-clean laws files root a bundle is r c
+IsChecked-unique laws files root _ _ (clean bundle r c) (unfit b is) = unfit-or-clean laws files root b bundle is r c
+IsChecked-unique laws files root _ _ (clean bundle r c) (clean bundle' r' c') = refl
+
+-- ---- `print ROOT`
+
+IsPrinted-unique : (laws : Laws) (files : Files) (root : List ℕ) (a b : Answer) → IsPrinted files root a → IsPrinted files root b → a ≡ b
+IsPrinted-unique laws files root _ _ (unfit_too a is) (unfit_too b is') = IsUnfit-unique laws files root a b is is'
+IsPrinted-unique laws files root _ _ (unfit_too a is) (compiled bundle told r c t) = unfit-or-clean laws files root a bundle is r c
+IsPrinted-unique laws files root _ _ (compiled bundle told r c t) (unfit_too b is) = unfit-or-clean laws files root b bundle is r c
+IsPrinted-unique laws files root _ _ (compiled bundle told r c t) (compiled bundle' told' r' c' t') =
+    let same : bundle' ≡ bundle = one_bundle laws files root bundle' bundle r' r in
+    let own = laws.programs bundle told told' t (subst (λ z. AreChecked z told') same t') in
+    ap (λ p. listed (listing p)) own ∙ ap (λ z. listed (listing (program z told'))) (sym same)
 
 -- ---- all words
 
@@ -150,28 +173,41 @@ file-same words r f r' f' one other =
     let a = one.form in
     let b = other.form in cc
 
-checked-same : (words : List (List ℕ)) (r r' : List ℕ) → IsCheck words r → IsCheck words r' → r ≡ r'
-checked-same words r r' one other =
+root-of-same : (command : List ℕ) (words : List (List ℕ)) (r r' : List ℕ) → IsOfRoot command words r → IsOfRoot command words r' → r ≡ r'
+root-of-same command words r r' one other =
     let a = one.form in
     let b = other.form in cc
 
-run-or-check : {P : Type 0} (words : List (List ℕ)) (r f r' : List ℕ) → IsRun words r f → IsCheck words r' → P
-run-or-check words r f r' one other =
+run-or-of-root : {P : Type 0} (command : List ℕ) (words : List (List ℕ)) (r f r' : List ℕ) → IsRun words r f → IsOfRoot command words r' → P
+run-or-of-root command words r f r' one other =
     let a = one.form in
     let b = other.form in cc
+
+check-or-print : {P : Type 0} (words : List (List ℕ)) (r r' : List ℕ) → IsCheck words r → IsPrint words r' → P
+check-or-print words r r' one other =
+    let first : 99 ≡ 112 = ap (λ w. get_or (get_or w 0 []) 0 0) (sym one.form ∙ other.form) in
+    absurd (omega (arith, first))
 
 pub IsAnswer-unique : (laws : Laws) (words : List (List ℕ)) (files : Files) (a b : Answer) → IsAnswer words files a → IsAnswer words files b → a ≡ b
 IsAnswer-unique laws words files _ _ (no_form n) (no_form n') = refl
-IsAnswer-unique laws words files _ _ (no_form n) (runs root file b run p) = absurd (n.0 root file run)
-IsAnswer-unique laws words files _ _ (no_form n) (checks root b check p) = absurd (n.1 root check)
-IsAnswer-unique laws words files _ _ (runs root file a run p) (no_form n) = absurd (n.0 root file run)
+IsAnswer-unique laws words files _ _ (no_form n) (runs root file b run p) = absurd (n.no_run root file run)
+IsAnswer-unique laws words files _ _ (no_form n) (checks root b check p) = absurd (n.no_check root check)
+IsAnswer-unique laws words files _ _ (no_form n) (prints root b print p) = absurd (n.no_print root print)
+IsAnswer-unique laws words files _ _ (runs root file a run p) (no_form n) = absurd (n.no_run root file run)
 IsAnswer-unique laws words files _ _ (runs root file a run p) (runs root' file' b run' q) =
     let r = root-same words root' file' root file run' run in
     let f = file-same words root' file' root file run' run in
     let q' = subst (λ x. IsPlayed files x file b) r (subst (λ x. IsPlayed files root' x b) f q) in
     both_played files root file a b (played files root file a p) (played files root file b q')
-IsAnswer-unique laws words files _ _ (runs root file a run p) (checks root' b check q) = run-or-check words root file root' run check
-IsAnswer-unique laws words files _ _ (checks root a check p) (no_form n) = absurd (n.1 root check)
-IsAnswer-unique laws words files _ _ (checks root a check p) (runs root' file b run q) = run-or-check words root' file root run check
+IsAnswer-unique laws words files _ _ (runs root file a run p) (checks root' b check q) = run-or-of-root _ words root file root' run check
+IsAnswer-unique laws words files _ _ (runs root file a run p) (prints root' b print q) = run-or-of-root _ words root file root' run print
+IsAnswer-unique laws words files _ _ (checks root a check p) (no_form n) = absurd (n.no_check root check)
+IsAnswer-unique laws words files _ _ (checks root a check p) (runs root' file b run q) = run-or-of-root _ words root' file root run check
 IsAnswer-unique laws words files _ _ (checks root a check p) (checks root' b check' q) =
-    IsChecked-unique laws files root a b p (subst (λ x. IsChecked files x b) (checked-same words root' root check' check) q)
+    IsChecked-unique laws files root a b p (subst (λ x. IsChecked files x b) (root-of-same _ words root' root check' check) q)
+IsAnswer-unique laws words files _ _ (checks root a check p) (prints root' b print q) = check-or-print words root root' check print
+IsAnswer-unique laws words files _ _ (prints root a print p) (no_form n) = absurd (n.no_print root print)
+IsAnswer-unique laws words files _ _ (prints root a print p) (runs root' file b run q) = run-or-of-root _ words root' file root run print
+IsAnswer-unique laws words files _ _ (prints root a print p) (checks root' b check q) = check-or-print words root' root check print
+IsAnswer-unique laws words files _ _ (prints root a print p) (prints root' b print' q) =
+    IsPrinted-unique laws files root a b p (subst (λ x. IsPrinted files x b) (root-of-same _ words root' root print' print) q)

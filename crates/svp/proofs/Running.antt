@@ -2,7 +2,7 @@
 use Rattle.std.proofs.Common.{◌≡◌, ℕ, List, Option, refl, sym, ◌∙◌, ap, subst, inl}
 use Rattle.sv_io.specs.Files.{Files}
 use Rattle.sv_io.specs.Sink.{with_bytes, AppendsFront}
-use Rattle.svp.specs.Answer.{Answer, usage, missing, source, source_at, events, turns, accepted, IsAnswer, status_of, text_of}
+use Rattle.svp.specs.Answer.{Answer, usage, missing, source, source_at, events, turns, accepted, listed, IsAnswer, status_of, text_of}
 use Rattle.svp.specs.Run.{Answers, BreaksOff, RunAnswers, RunCompletes, IsOneAnswer}
 use Rattle.svp.specs.declared.status.Status.{Status}
 
@@ -19,6 +19,7 @@ answered words files old new (source_at file line column word) is written = answ
 answered words files old new (events fault) is written = answer_given words files old new (events fault) is written
 answered words files old new (turns form ids) is written = answer_given words files old new (turns form ids) is written
 answered words files old new accepted is written = answer_given words files old new accepted is written
+answered words files old new (listed text) is written = answer_given words files old new (listed text) is written
 
 -- the answer was given
 pub run-answered : (words : List (List ℕ)) (files : Files) (old new : Option (List ℕ)) (status : Status) (answer : Answer) → IsAnswer words files answer

@@ -3,9 +3,12 @@ use Rattle.std.specs.Prelude.{◌≡◌, ℕ, ◌<◌, ◌≤◌, List, ◌∷�
 use Rattle.sv_ast.specs.declared.files.Bundle.{Bundle}
 use Rattle.sv_ast.specs.declared.files.SourceFile.{SourceFile}
 use Rattle.sv_ast.specs.declared.refusals.Kind.TheVariants as kind
-use Rattle.sv_check.specs.Checked.{IsFirstMistake, IsClean}
+use Rattle.sv_check.specs.declared.checked.CheckedComponent.{CheckedComponent}
+use Rattle.sv_check.specs.Checked.{IsFirstMistake, IsClean, AreChecked}
+use Rattle.sv_compile.specs.Compile.{program}
 use Rattle.sv_io.specs.Files.{Files, find_file}
 use Rattle.sv_lines.specs.Lines.{line_in, column_in}
+use Rattle.sv_listing.specs.Listing.{listing}
 use Rattle.sv_load.specs.Loads.{Reads, nothing as no_files}
 use Rattle.sv_load.specs.declared.refusals.LoadError.{LoadError}
 use Rattle.sv_load.specs.declared.refusals.LoadError.TheVariants as load
@@ -14,7 +17,7 @@ use Rattle.svp.specs.EventsFile.{Clicks}
 use Rattle.svp.specs.Form.{Form, Spells}
 use Rattle.svp.specs.Page.{pages}
 use Rattle.svp.specs.Kinds.{parse_word, check_word}
-use Rattle.svp.specs.Words.{IsRun, IsCheck, IsNoForm}
+use Rattle.svp.specs.Words.{IsRun, IsCheck, IsPrint, IsNoForm}
 use Rattle.svp.specs.declared.status.Status.{Status}
 use Rattle.svp.specs.declared.status.Status.TheVariants as statuses
 
@@ -63,6 +66,7 @@ pub data Answer : Type 0 where
   events : Fault → Answer
   turns : Form → (ids : List (List ℕ)) → Answer
   accepted : Answer
+  listed : (text : List ℕ) → Answer
 
 -- What `run ROOT EVENTS` answers. The root file is looked at first, and the events file only where there is a program.
 pub data IsPlayed (files : Files) (root file : List ℕ) : Answer → Type 0 where
@@ -86,18 +90,36 @@ load_answer load.NoMemory = None
 abbrev pub mistake_answer : SourceFile → CheckRefusal → Answer
 mistake_answer file m = source_at file.name (line_in file.lines m.at.from) (column_in file.lines m.at.from) (check_word m.kind)
 
+-- this is answered for the first mistake of a program
+pub record IsMistaken (bundle : Bundle) (answer : Answer) : Type 0 where
+  pub mistake : CheckRefusal
+  pub first : IsFirstMistake bundle mistake
+  pub file : SourceFile
+  pub there : slice_get bundle.files mistake.at.file ≡ Some file
+  pub told : answer ≡ mistake_answer file mistake
+
+-- what is answered where a root component with all that it imports is refused
+pub data IsUnfit (files : Files) (root : List ℕ) : Answer → Type 0 where
+  not_loaded : (error : LoadError) (answer : Answer) → Reads files root no_files (Err error) → load_answer error ≡ Some answer → IsUnfit files root answer
+  mistaken : (bundle : Bundle) (answer : Answer) → Reads files root no_files (Ok bundle) → IsMistaken bundle answer → IsUnfit files root answer
+
 -- What `check ROOT` answers.
 pub data IsChecked (files : Files) (root : List ℕ) : Answer → Type 0 where
-  not_loaded : (error : LoadError) (answer : Answer) → Reads files root no_files (Err error) → load_answer error ≡ Some answer → IsChecked files root answer
-  mistaken : (bundle : Bundle) (m : CheckRefusal) (file : SourceFile) → Reads files root no_files (Ok bundle) → IsFirstMistake bundle m
-      → slice_get bundle.files m.at.file ≡ Some file → IsChecked files root (mistake_answer file m)
+  unfit : (answer : Answer) → IsUnfit files root answer → IsChecked files root answer
   clean : (bundle : Bundle) → Reads files root no_files (Ok bundle) → IsClean bundle → IsChecked files root accepted
+
+-- What `print ROOT` answers: where there is no mistake, the listing of what the program is compiled to.
+pub data IsPrinted (files : Files) (root : List ℕ) : Answer → Type 0 where
+  unfit_too : (answer : Answer) → IsUnfit files root answer → IsPrinted files root answer
+  compiled : (bundle : Bundle) (told : List CheckedComponent) → Reads files root no_files (Ok bundle) → IsClean bundle → AreChecked bundle told
+      → IsPrinted files root (listed (listing (program bundle told)))
 
 -- the cause of each answer
 pub data IsAnswer (words : List (List ℕ)) (files : Files) : Answer → Type 0 where
   no_form : IsNoForm words → IsAnswer words files usage
   runs : (root file : List ℕ) (answer : Answer) → IsRun words root file → IsPlayed files root file answer → IsAnswer words files answer
   checks : (root : List ℕ) (answer : Answer) → IsCheck words root → IsChecked files root answer → IsAnswer words files answer
+  prints : (root : List ℕ) (answer : Answer) → IsPrint words root → IsPrinted files root answer → IsAnswer words files answer
 
 -- the status of an answer
 abbrev pub status_of : Answer → Status
@@ -108,6 +130,7 @@ status_of (source_at file line column word) = statuses.Source
 status_of (events fault) = statuses.Events
 status_of (turns form ids) = statuses.Ok
 status_of accepted = statuses.Ok
+status_of (listed text) = statuses.Ok
 
 -- the line for words that are no form
 unfoldable pub usage_line : List ℕ
@@ -123,3 +146,4 @@ text_of (source_at file line column word) =
 text_of (events fault) = codes "events: " ++ (fault_text fault ++ 10 ∷ [])
 text_of (turns form ids) = pages form ids
 text_of accepted = codes "accepted\n"
+text_of (listed text) = text

@@ -4,7 +4,7 @@ use Rattle.std.specs.List.{list_all}
 use Rattle.std.specs.declared.alloc.Global.{Global}
 use Rattle.std.specs.Char.{is_ascii_alphanumeric}
 use Rattle.svp.specs.declared.words.Command.{Command}
-use Rattle.svp.specs.declared.words.Command.TheVariants.{Run, Check}
+use Rattle.svp.specs.declared.words.Command.TheVariants.{Run, Check, Print}
 
 -- a letter or digit of ASCII, `_` or `-`
 abbrev pub is_name_byte : ℕ → Bool
@@ -28,26 +28,40 @@ pub record IsRun (words : List (List ℕ)) (root events : List ℕ) : Type 0 whe
   pub root_name : IsRoot root
   pub events_name : IsEvents events
 
--- the words `check ROOT`
-pub record IsCheck (words : List (List ℕ)) (root : List ℕ) : Type 0 where
-  pub form : words ≡ codes "check" ∷ root ∷ []
+-- a command with the name of a root file
+pub record IsOfRoot (command : List ℕ) (words : List (List ℕ)) (root : List ℕ) : Type 0 where
+  pub form : words ≡ command ∷ root ∷ []
   pub root_name : IsRoot root
 
--- the words aren't `run ROOT EVENTS`, or not `check ROOT`
+-- the words `check ROOT`
+abbrev pub IsCheck : List (List ℕ) → List ℕ → Type 0
+IsCheck words root = IsOfRoot (codes "check") words root
+
+-- the words `print ROOT`
+abbrev pub IsPrint : List (List ℕ) → List ℕ → Type 0
+IsPrint words root = IsOfRoot (codes "print") words root
+
+-- the words aren't `run ROOT EVENTS`, or not `check ROOT`, or not `print ROOT`
 abbrev pub IsNoRun : List (List ℕ) → Type 0
 IsNoRun words = (root events : List ℕ) → IsRun words root events → ⊥
 
 abbrev pub IsNoCheck : List (List ℕ) → Type 0
 IsNoCheck words = (root : List ℕ) → IsCheck words root → ⊥
 
+abbrev pub IsNoPrint : List (List ℕ) → Type 0
+IsNoPrint words = (root : List ℕ) → IsPrint words root → ⊥
+
 -- they are no form
-abbrev pub IsNoForm : List (List ℕ) → Type 0
-IsNoForm words = IsNoRun words × IsNoCheck words
+pub record IsNoForm (words : List (List ℕ)) : Type 0 where
+  pub no_run : IsNoRun words
+  pub no_check : IsNoCheck words
+  pub no_print : IsNoPrint words
 
 -- the words are the form that a command says
 abbrev pub IsCommand : List (List ℕ) → Command → Type 0
 IsCommand words (Run root events) = IsRun words root.now events.now
 IsCommand words (Check root) = IsCheck words root.now
+IsCommand words (Print root) = IsPrint words root.now
 
 -- texts as their bytes
 abbrev pub bytes_of : List (String Global) → List (List ℕ)

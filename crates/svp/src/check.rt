@@ -1,9 +1,12 @@
-// What `check ROOT` asks for.
-ghost use Rattle.std.specs.Prelude.{◌≡◌, ◌≤◌, ◌<◌, Some, length, slice_get, string_bytes, IfOk, IfSome};
+// What `check ROOT` and `print ROOT` ask for.
+ghost use Rattle.std.specs.Prelude.{◌≡◌, ◌≢◌, ◌≤◌, ◌<◌, Some, length, slice_get, string_bytes, IfOk, IfSome};
 ghost use Rattle.sv_ast.specs.declared.files.SourceFile.{SourceFile as AnySource};
+ghost use Rattle.sv_check.specs.Checked.{AreChecked, IsCause};
+ghost use Rattle.sv_compile.specs.Compile.{program as program_of};
 ghost use Rattle.sv_io.specs.Faults.{Rose};
 ghost use Rattle.sv_lines.specs.Lines.{LinesAscend};
-ghost use Rattle.svp.specs.Answer.{IsChecked, load_answer, mistake_answer};
+ghost use Rattle.sv_listing.specs.Listing.{listing as listing_of};
+ghost use Rattle.svp.specs.Answer.{IsChecked, IsPrinted, IsMistaken, listed as listed_text, load_answer, mistake_answer};
 ghost use Rattle.svp.specs.Job.{answer_of, refusal_of, IsPlayable};
 ghost use Rattle.sv_load.specs.declared.refusals.LoadError.TheVariants as LoadError;
 
@@ -12,9 +15,11 @@ use crate::kinds::{check_word, parse_word};
 use std::alloc::{AllocError, Global};
 use sv_ast::{Bundle, Kind};
 use sv_base::Text;
-use sv_check::check;
+use sv_check::{Checked, check};
+use sv_compile::compile;
 use sv_io::{Shelf, ShelfError};
 use sv_lines::place_of;
+use sv_listing::listing;
 use sv_load::{LoadError, load};
 use sv_resolve::{CheckError, CheckRefusal};
 
@@ -31,8 +36,50 @@ pub fn decide_check<F: Shelf>(alloc: Global, root: &str, shelf: &mut F) -> Resul
     };
     match check(alloc, &bundle) {
         Ok(_) => Ok(Job::Accept),
-        Err(CheckError::Refused(mistake)) => Ok(Job::Refuse(refused(alloc, &bundle, &mistake)?)),
-        Err(CheckError::NoMemory) => Err(ShelfError::NoMemory),
+        Err(error) => unclean(alloc, &bundle, &error),
+    }
+}
+
+/// The answer to `print ROOT`: the program is loaded and then checked, and what it is compiled to is listed.
+pub fn decide_print<F: Shelf>(alloc: Global, root: &str, shelf: &mut F) -> Result<Job, ShelfError>
+    ensures answer { IfOk result (λ job. IfSome (F.files shelf.old) (λ files. IsPrinted files root.now (answer_of job))) }
+    ensures playable { IfOk result IsPlayable }
+    ensures later { F.faults shelf.old ≤ F.faults shelf.new }
+    ensures failed { result ≡ Err ShelfError.Failed → Rose (F.faults shelf.old) (F.faults shelf.new) }
+{
+    let bundle = match load(alloc, shelf, root) {
+        Ok(bundle) => bundle,
+        Err(error) => return not_loaded(alloc, &error),
+    };
+    match check(alloc, &bundle) {
+        Ok(checked) => listed(alloc, &checked),
+        Err(error) => unclean(alloc, &bundle, &error),
+    }
+}
+
+// The listing of a checked program.
+fn listed(alloc: Global, checked: &Checked<'_>) -> Result<Job, ShelfError>
+    requires checked { AreChecked checked.now.bundle.now checked.now.components }
+    requires lines { LinesAscend checked.now.bundle.now.files }
+    ensures answer { IfOk result (λ job. answer_of job ≡ listed_text (listing_of (program_of checked.now.bundle.now checked.now.components))) }
+    ensures playable { IfOk result IsPlayable }
+    ensures failed { result ≢ Err ShelfError.Failed }
+{
+    let program = compile(alloc, checked)?;
+    Ok(Job::List(listing(alloc, &program)?))
+}
+
+// The answer where the program has a mistake.
+fn unclean(alloc: Global, bundle: &Bundle, error: &CheckError) -> Result<Job, ShelfError>
+    requires cause { IsCause bundle.now error.now }
+    requires lines { LinesAscend bundle.now.files }
+    ensures answer { IfOk result (λ job. IsMistaken bundle.now (answer_of job)) }
+    ensures playable { IfOk result IsPlayable }
+    ensures failed { result ≢ Err ShelfError.Failed }
+{
+    match error {
+        CheckError::Refused(mistake) => Ok(Job::Refuse(refused(alloc, bundle, mistake)?)),
+        CheckError::NoMemory => Err(ShelfError::NoMemory),
     }
 }
 

@@ -47,6 +47,8 @@ pub enum Job {
     Play(Counter, Vec<String>),
     /// Say that the program is accepted.
     Accept,
+    /// Print this listing of the program.
+    List(String),
 }
 
 const USAGE: &str =

@@ -2,6 +2,7 @@
 ghost use Rattle.svp.specs.Run.{IsOneAnswer};
 
 use sv_check::{mistake_or_clean, one_mistake};
+use sv_compile::one_program;
 use sv_load::one_outcome;
 
 /// No words and files call for two different answers, so that each cause is exact.
@@ -11,4 +12,5 @@ pub fn one_answer()
     one_outcome();
     one_mistake();
     mistake_or_clean();
+    one_program();
 }

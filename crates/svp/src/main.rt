@@ -1,5 +1,6 @@
 //! The program `svp`: it reads a root component and a file of recorded events, and prints the page after mounting and
-//! after each event; or it checks a root component with all that it imports. `top::run` carries what is promised; `main` gives it the present folder and standard output.
+//! after each event; or it checks a root component with all that it
+//! imports, or lists what it is compiled to. `top::run` carries what is promised; `main` gives it the present folder and standard output.
 #![tactic(auto)]
 
 mod check;
@@ -12,6 +13,8 @@ mod kinds;
 mod laws;
 mod load;
 mod page;
+#[cfg(test)]
+mod print_tests;
 mod read;
 mod stage;
 mod status;

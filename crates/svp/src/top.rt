@@ -11,7 +11,7 @@ ghost use Rattle.svp.specs.Job.{answer_of, IsPlayable};
 ghost use Rattle.svp.specs.Run.{RunAnswers, RunCompletes};
 ghost use Rattle.svp.specs.Stage.{Shows};
 
-use crate::check::decide_check;
+use crate::check::{decide_check, decide_print};
 use crate::counter::Counter;
 use crate::job::{Job, Refusal};
 use crate::laws::one_answer;
@@ -34,6 +34,7 @@ fn decide<F: Shelf>(alloc: Global, words: &[String], shelf: &mut F) -> Result<Jo
     match command_of(words) {
         Some(Command::Run { root, events }) => decide_run(alloc, root, events, shelf),
         Some(Command::Check { root }) => decide_check(alloc, root, shelf),
+        Some(Command::Print { root }) => decide_print(alloc, root, shelf),
         None => Ok(Job::Refuse(Refusal::Usage)),
     }
 }
@@ -145,6 +146,10 @@ fn answer<K: Sink>(alloc: Global, job: &Job, out: &mut K) -> Result<Status, Sink
         }
         Job::Accept => {
             write_all(out, b"accepted\n")?;
+            Ok(Status::Ok)
+        }
+        Job::List(text) => {
+            write_all(out, text.as_bytes())?;
             Ok(Status::Ok)
         }
     }

@@ -1,7 +1,7 @@
 // The words of the command line. `docs/formats.md` lists their forms.
 ghost use Rattle.std.specs.Prelude.{◌≡◌, ℕ, List, IsTrue, ◌↔◌, IfSome, IfNone};
 ghost use Rattle.std.specs.List.{list_all};
-ghost use Rattle.svp.specs.Words.{is_name_byte, IsRoot, IsEvents, IsRun, IsCheck, IsCommand, IsNoRun, IsNoCheck, IsNoForm, bytes_of};
+ghost use Rattle.svp.specs.Words.{is_name_byte, IsRoot, IsEvents, IsRun, IsCheck, IsPrint, IsCommand, IsNoRun, IsNoCheck, IsNoPrint, IsNoForm, bytes_of};
 
 fn are_name_bytes(bytes: &[u8]) -> bool
     ensures { result ≡ list_all is_name_byte bytes.now }
@@ -39,6 +39,8 @@ pub enum Command<'a> {
     Run { root: &'a str, events: &'a str },
     /// `check ROOT`.
     Check { root: &'a str },
+    /// `print ROOT`.
+    Print { root: &'a str },
 }
 
 /// The command of the words, or `None` exactly where they are no form.
@@ -49,8 +51,11 @@ pub fn command_of(words: &[String]) -> Option<Command<'_>>
     if let Some((root, events)) = run_words(words) {
         return Some(Command::Run { root, events });
     }
-    match check_words(words) {
-        Some(root) => Some(Command::Check { root }),
+    if let Some(root) = check_words(words) {
+        return Some(Command::Check { root });
+    }
+    match print_words(words) {
+        Some(root) => Some(Command::Print { root }),
         None => None,
     }
 }
@@ -76,6 +81,17 @@ fn check_words(words: &[String]) -> Option<&str>
 {
     match words {
         [command, root] if command.as_str() == "check" && is_root(root) => Some(root.as_str()),
+        _ => None,
+    }
+}
+
+// The name of the root file, where the words are `print ROOT`.
+fn print_words(words: &[String]) -> Option<&str>
+    ensures some { IfSome result (λ root. IsPrint (bytes_of words.now) root.now) }
+    ensures none { IfNone result (IsNoPrint (bytes_of words.now)) }
+{
+    match words {
+        [command, root] if command.as_str() == "print" && is_root(root) => Some(root.as_str()),
         _ => None,
     }
 }

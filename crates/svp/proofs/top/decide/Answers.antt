@@ -1,7 +1,7 @@
 use Rattle.std.proofs.Common.{subst}
 use Rattle.svp.specs.Job.{answer_of}
 use Rattle.svp.specs.Words.{bytes_of, IsCommand}
-use Rattle.svp.proofs.Deciding.{ok_weaker, calls-usage, calls-run, calls-check}
+use Rattle.svp.proofs.Deciding.{ok_weaker, calls-usage, calls-run, calls-check, calls-print}
 use Rattle.svp.proofs.top.decide.Goals as goal
 
 pub returns-in-Some-Run-clause-answer : goal.returns-in-Some-Run-clause-answer
@@ -13,6 +13,11 @@ pub returns-in-Some-Check-clause-answer : goal.returns-in-Some-Check-clause-answ
 returns-in-Some-Check-clause-answer g c = ok_weaker c.decide_check.result
     (λ job. calls-check (g.F.Shelf.files c.args.shelf.now) (bytes_of c.args.words.now) c.in-Some-Check.root.now (answer_of job) (subst (IsCommand (bytes_of c.args.words.now)) c.in-Some-Check.field-0-is c.in-Some-Check.ensures.some))
     c.decide_check.ensures.answer
+
+pub returns-in-Some-Print-clause-answer : goal.returns-in-Some-Print-clause-answer
+returns-in-Some-Print-clause-answer g c = ok_weaker c.decide_print.result
+    (λ job. calls-print (g.F.Shelf.files c.args.shelf.now) (bytes_of c.args.words.now) c.in-Some-Print.root.now (answer_of job) (subst (IsCommand (bytes_of c.args.words.now)) c.in-Some-Print.field-0-is c.in-Some-Print.ensures.some))
+    c.decide_print.ensures.answer
 
 pub returns-in-None-clause-answer : goal.returns-in-None-clause-answer
 returns-in-None-clause-answer g c = calls-usage (g.F.Shelf.files c.args.shelf.now) (bytes_of c.args.words.now) c.in-None.ensures.none
