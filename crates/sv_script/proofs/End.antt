@@ -23,7 +23,7 @@ use Rattle.sv_script.specs.declared.place.Place.{Place}
 use Rattle.sv_script.specs.Grammar as g
 use Rattle.sv_script.specs.Lists.{upto_from}
 use Rattle.sv_script.specs.Nodes.{arm}
-use Rattle.sv_script.specs.Rules.{begins_each, value, declared, fixed, variables, const_statement, test, arms, otherwise, head_first, head_value_upto, statement, item, braced, func}
+use Rattle.sv_script.specs.Rules.{begins_each, value, declared, fixed, variables, const_statement, bracketed, arms, otherwise, head_first, head_value_upto, statement, item, braced, func}
 use Rattle.sv_script.specs.Script.{bodies}
 use Rattle.sv_script.proofs.EndSteps.{separated_ends, none_ends, more_ends, from_ends}
 use Rattle.sv_script.proofs.EndStatements.{arm_comes, no_arm_comes, no_each_comes, no_name_comes, alone_ends, set_ends, fixed_ends, variables_end, const_ends, item_let_ends, item_const_ends, item_other_ends, braced_ends, test_ends, arm_ends, last_arm_ends, more_arms_end, no_else_ends, else_ends, if_ends, while_ends, list_ends, each_ends, no_head_ends, first_let_ends, first_value_ends, no_value_ends, some_value_ends, steps_end, empty_ends, nested_ends, break_ends, continue_ends, returned_ends, answered_ends, evaluated_ends, func_ends}
@@ -92,7 +92,7 @@ module _ (limits wide : Limits) (block : ℕ → Parser (List Stmt)) (P : Refuse
 
   -- ---- heads
 
-  one_test_ends : {m : ℕ} {i o : Input} {x : Expr} → g.Test wide block m i x o → (d : ℕ) → R (suc d) (suc m) → Ends P (test limits d (bodies limits d) i) (x, o)
+  one_test_ends : {m : ℕ} {i o : Input} {x : Expr} → g.Test wide block m i x o → (d : ℕ) → R (suc d) (suc m) → Ends P (bracketed limits d (bodies limits d) i) (x, o)
   one_test_ends {m = m} (g.test {i = i} {j = j} h x c) d r = test_ends P limits d (bodies limits d) i j _ h (inner_ends x d (cause.less d m r)) c
 
   first_ends : {m : ℕ} {i o : Input} {x : Option Stmt} → g.First wide block m i x o → (d : ℕ) → R (suc d) (suc m) → Ends P (head_first limits d (bodies limits d) i) (x, o)

@@ -25,7 +25,7 @@ use Rattle.sv_script.specs.Lists.{separated, upto}
 use Rattle.sv_script.specs.Nodes.{form, stmt, decl, arm}
 use Rattle.sv_script.specs.Places.{in_function, looped}
 use Rattle.sv_script.specs.Rules as r
-use Rattle.sv_script.specs.Rules.{Bodies, single, empty, break_statement, continue_statement, stops, begins_arm, begins_each, value, declared_as, declared, fixed, variables, let_statement, const_statement, test, arm_of, arms, otherwise, if_statement, while_statement, list_behind, each, head_let, head_value, head_statement, head_first, head_value_upto, steps, for_statement, nested, answer, return_statement, evaluated, statement, item, braced, params, func}
+use Rattle.sv_script.specs.Rules.{Bodies, single, empty, break_statement, continue_statement, stops, begins_arm, begins_each, value, declared_as, declared, fixed, variables, let_statement, const_statement, bracketed, arm_of, arms, otherwise, if_statement, while_statement, list_behind, each, head_let, head_value, head_statement, head_first, head_value_upto, steps, for_statement, nested, answer, return_statement, evaluated, statement, item, braced, params, func}
 use Rattle.sv_script.proofs.EndSteps.{word_yes, ending_yes}
 use Rattle.sv_script.proofs.Sound.{begins_answer}
 
@@ -137,11 +137,11 @@ module _ (P : Refused → Type 0) (limits : Limits) (room : ℕ) (below : Bodies
 
   -- ---- branches
 
-  pub test_ends : (i j : Input) (x : Expr) → sees i ≡ k.LParen → Ends P (below.exprs.inside Whole (next i)) (x, j) → sees j ≡ k.RParen → Ends P (test limits room below i) (x, next j)
-  unfolding test
+  pub test_ends : (i j : Input) (x : Expr) → sees i ≡ k.LParen → Ends P (below.exprs.inside Whole (next i)) (x, j) → sees j ≡ k.RParen → Ends P (bracketed limits room below i) (x, next j)
+  unfolding bracketed
   test_ends i j x h hx c = ends_then P _ _ (inl (expect_yes k.LParen i h)) (ends_then P _ _ hx (ends_then P _ _ (inl (expect_yes k.RParen j c)) (inl refl)))
 
-  pub arm_ends : (p : Place) (i j o : Input) (x : Expr) (chosen : Stmt) → Ends P (test limits room below (next i)) (x, j) → Ends P (below.body p j) (chosen, o)
+  pub arm_ends : (p : Place) (i j o : Input) (x : Expr) (chosen : Stmt) → Ends P (bracketed limits room below (next i)) (x, j) → Ends P (below.body p j) (chosen, o)
       → Ends P (arm_of limits room below p i) (arm x chosen, o)
   unfolding arm_of
   arm_ends p i j o x chosen ht hb = ends_then P _ _ ht (ends_then P _ _ hb (inl refl))
@@ -179,12 +179,12 @@ module _ (P : Refused → Type 0) (limits : Limits) (room : ℕ) (below : Bodies
 
   -- ---- loops
 
-  while_yes : (p : Place) (i j o : Input) (x : Expr) (turn : Stmt) → Ends P (test limits room below (next i)) (x, j) → Ends P (below.body (looped p) j) (turn, o)
+  while_yes : (p : Place) (i j o : Input) (x : Expr) (turn : Stmt) → Ends P (bracketed limits room below (next i)) (x, j) → Ends P (below.body (looped p) j) (turn, o)
       → Ends P (while_statement limits room below p i) (form i o (s.While x turn), o)
   unfolding while_statement
   while_yes p i j o x turn ht hb = ends_then P _ _ ht (ends_then P _ _ hb (inl refl))
 
-  pub while_ends : (p : Place) (i j o : Input) (x : Expr) (turn : Stmt) → sees i ≡ k.While → Ends P (test limits room below (next i)) (x, j) → Ends P (below.body (looped p) j) (turn, o)
+  pub while_ends : (p : Place) (i j o : Input) (x : Expr) (turn : Stmt) → sees i ≡ k.While → Ends P (bracketed limits room below (next i)) (x, j) → Ends P (below.body (looped p) j) (turn, o)
       → Ends P (statement limits room below p i) (form i o (s.While x turn), o)
   unfolding statement
   while_ends p i j o x turn h ht hb = rw h (while_yes p i j o x turn ht hb)

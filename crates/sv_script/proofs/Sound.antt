@@ -21,7 +21,7 @@ use Rattle.sv_script.specs.Lists.{separated, upto}
 use Rattle.sv_script.specs.Nodes.{decl, arm}
 use Rattle.sv_script.specs.Places.{looped}
 use Rattle.sv_script.specs.Rules as r
-use Rattle.sv_script.specs.Rules.{single, empty, break_statement, continue_statement, stops, begins_arm, begins_each, value, declared_as, declared, fixed, variables, let_statement, const_statement, test, arm_of, arms, otherwise, if_statement, while_statement, list_behind, each, head_let, head_value, head_statement, head_first, head_value_upto, steps, for_statement, nested, answer, return_statement, evaluated, statement, item, braced}
+use Rattle.sv_script.specs.Rules.{single, empty, break_statement, continue_statement, stops, begins_arm, begins_each, value, declared_as, declared, fixed, variables, let_statement, const_statement, bracketed, arm_of, arms, otherwise, if_statement, while_statement, list_behind, each, head_let, head_value, head_statement, head_first, head_value_upto, steps, for_statement, nested, answer, return_statement, evaluated, statement, item, braced}
 use Rattle.sv_script.specs.Script.{bodies}
 use Rattle.sv_script.proofs.SoundSteps.{IsEnd, both, neither, holds_word, holds_name, holds_ending, ending_holds, separated_holds, IsUpto, upto_holds}
 
@@ -139,8 +139,8 @@ module _ (limits : Limits) where
         holds_then (g.Several (g.Fixed limits block d) (next i)) Q (separated (fixed limits d below) (next i)) _ (fixed_hold (next i))
         (λ found j m. holds_ending Q j _ (λ o e. g.constants h m e))
 
-    test_holds : (i : Input) → Holds (g.Test limits block d i) (test limits d below i)
-    unfolding test
+    test_holds : (i : Input) → Holds (g.Test limits block d i) (bracketed limits d below i)
+    unfolding bracketed
     test_holds i =
         let Q = g.Test limits block d i in
         holds_expect Q k.LParen i _ (λ a. holds_inner d Q (next i) _ (λ x j hx. holds_expect Q k.RParen j _ (λ b. g.test a hx b)))
@@ -180,7 +180,7 @@ module _ (limits : Limits) where
 
       arm_holds : (p : Place) (i : Input) → Holds (AnArm p i) (arm_of limits d below p i)
       unfolding arm_of
-      arm_holds p i = holds_then (g.Test limits block d (next i)) (AnArm p i) (test limits d below (next i)) _ (test_holds (next i))
+      arm_holds p i = holds_then (g.Test limits block d (next i)) (AnArm p i) (bracketed limits d below (next i)) _ (test_holds (next i))
           (λ x j t. holds_body (AnArm p i) p j _ (λ chosen o b. (x, chosen, j, refl, t, b)))
 
       abbrev Arms : Place → ℕ → List Arm → Input → List Arm → Input → Type 0
@@ -245,7 +245,7 @@ module _ (limits : Limits) where
       unfolding while_statement
       while_holds p i h =
           let Q = Statement p i in
-          holds_then (g.Test limits block d (next i)) Q (test limits d below (next i)) _ (test_holds (next i))
+          holds_then (g.Test limits block d (next i)) Q (bracketed limits d below (next i)) _ (test_holds (next i))
           (λ x j t. holds_body Q (looped p) j _ (λ turn o b. g.repeated h t b))
 
       binder : (i : Input) → begins_each i ≡ true → g.Binder i (sees_one k.Const i)

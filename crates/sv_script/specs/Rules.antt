@@ -127,8 +127,8 @@ module _ (limits : Limits) (room : ℕ) (below : Bodies) where
   -- ---- branches
 
   -- an expression in round brackets
-  unfoldable pub test : Parser Expr
-  test = do
+  unfoldable pub bracketed : Parser Expr
+  bracketed = do
     expect k.LParen
     x ← below.exprs.inside Whole
     expect k.RParen
@@ -137,7 +137,7 @@ module _ (limits : Limits) (room : ℕ) (below : Bodies) where
   unfoldable pub arm_of : Place → Parser Arm
   arm_of place = do
     take_token
-    x ← test
+    x ← bracketed
     chosen ← below.body place
     pure (arm x chosen)
 
@@ -166,7 +166,7 @@ module _ (limits : Limits) (room : ℕ) (below : Bodies) where
   while_statement place = do
     from ← here
     take_token
-    x ← test
+    x ← bracketed
     turn ← below.body (looped place)
     λ i. Ok (stmt (span_from from i) (s.While x turn), i)
 

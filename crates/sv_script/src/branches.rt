@@ -22,10 +22,10 @@ impl<
     K: Fn(Global, &mut Tokens<'_>, usize, Place) -> Result<Stmt, ParseError>,
 > Statements<F, G, H, K> {
     // An expression in round brackets.
-    #[tactic(auto, unfolding(crate::specs::Rules::test))]
-    pub(crate) fn test(&self, tokens: &mut Tokens<'_>) -> Result<Expr, ParseError>
+    #[tactic(auto, unfolding(crate::specs::Rules::bracketed))]
+    pub(crate) fn bracketed(&self, tokens: &mut Tokens<'_>) -> Result<Expr, ParseError>
         requires { Holds (bodies real self.now.exprs.room) self.now.exprs.room (F.pre self.now.exprs.inside) (F.post self.now.exprs.inside) (G.pre self.now.exprs.block) (G.post self.now.exprs.block) (H.pre self.now.block) (H.post self.now.block) (K.pre self.now.body) (K.post self.now.body) }
-        ensures { Reads (spec.test real self.now.exprs.room (bodies real self.now.exprs.room) tokens.old) result tokens.new }
+        ensures { Reads (spec.bracketed real self.now.exprs.room (bodies real self.now.exprs.room) tokens.old) result tokens.new }
     {
         tokens.expect(Lexeme::LParen)?;
         let test = self.enclosed(tokens)?;
@@ -39,7 +39,7 @@ impl<
         ensures { Reads (spec.arm_of real self.now.exprs.room (bodies real self.now.exprs.room) place tokens.old) result tokens.new }
     {
         tokens.take();
-        let test = self.test(tokens)?;
+        let test = self.bracketed(tokens)?;
         let body = self.body(tokens, place)?;
         Ok(Arm { test, body })
     }

@@ -13,8 +13,6 @@ mod lists;
 mod loops;
 mod place;
 mod statements;
-#[cfg(test)]
-mod tests;
 mod top;
 mod words;
 

@@ -42,7 +42,7 @@ impl<
     {
         let from = tokens.start();
         tokens.take();
-        let test = self.test(tokens)?;
+        let test = self.bracketed(tokens)?;
         let body = self.turn(tokens, place)?;
         Ok(Stmt {
             span: tokens.span_from(from),
