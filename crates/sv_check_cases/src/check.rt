@@ -1,56 +1,9 @@
 // Small programs, and the first mistake of each. Components are scripts alone here.
+use crate::programs::{Sources, scripts};
 use std::alloc::Global;
-use std::process::Abort;
 use std::test::Fail;
-use sv_ast::{Bundle, Component, FileTree, Files, LineStarts, Module, Nodes, SourceFile};
-use sv_base::{Names, Text};
 use sv_check::check;
 use sv_resolve::{CheckError, CheckRefusal};
-use sv_script::{parse_module_script, parse_script};
-
-// Files by name and text.
-type Sources = &'static [(&'static str, &'static str)];
-
-fn tree(
-    alloc: Global,
-    names: &mut Names,
-    file: u16,
-    name: &str,
-    text: &str,
-) -> Result<FileTree, Fail> {
-    let bytes = text.as_bytes();
-    if bytes.len() >= 100_000 {
-        return Err("too long".into());
-    }
-    if name.ends_with(".js") {
-        let script = parse_module_script(alloc, names, file, bytes)?;
-        return Ok(FileTree::Module(Module { file, script }));
-    }
-    let script = parse_script(alloc, names, file, bytes, 0, bytes.len() as u32)?;
-    let nodes = Nodes::new(alloc);
-    Ok(FileTree::Component(Component {
-        file,
-        script,
-        nodes,
-    }))
-}
-
-fn bundle(alloc: Global, sources: &[(&str, &str)]) -> Result<Bundle, Fail> {
-    let mut names = Names::empty(alloc);
-    let mut files = Files::new(alloc);
-    for (file, (name, text)) in sources.iter().enumerate() {
-        if file > 63 {
-            return Err("too many".into());
-        }
-        let tree = tree(alloc, &mut names, file as u16, name, text)?;
-        files.push(SourceFile {
-            name: Text::new(alloc, name)?,
-            lines: LineStarts::new(alloc),
-            tree,
-        })?;
-    }
-    Ok(Bundle { names, files })
-}
 
 // A refusal as its kind, the name of its file and what stands at its place.
 fn told(alloc: Global, sources: &[(&str, &str)], refusal: &CheckRefusal) -> Result<String, Fail> {
@@ -68,7 +21,7 @@ fn told(alloc: Global, sources: &[(&str, &str)], refusal: &CheckRefusal) -> Resu
 }
 
 fn checked(alloc: Global, sources: &[(&str, &str)]) -> Result<String, Fail> {
-    let bundle = bundle(alloc, sources)?;
+    let bundle = scripts(alloc, sources)?;
     match check(alloc, &bundle) {
         Ok(_) => Ok(String::from_str(alloc, "accepted")?),
         Err(CheckError::Refused(refusal)) => told(alloc, sources, &refusal),

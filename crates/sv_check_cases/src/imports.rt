@@ -1,72 +1,20 @@
 // Small programs, and the places of the imports that are wrong in each.
+use crate::programs::{Sources, push_found, scripts};
 use std::alloc::Global;
-use std::process::Abort;
 use std::test::Fail;
-use sv_ast::{Bundle, Component, FileTree, Files, LineStarts, Module, Nodes, SourceFile};
-use sv_base::{Names, Span, Text};
+use sv_base::Span;
 use sv_imports::{import_cycles, unknown_imports};
 use sv_list::Items;
-use sv_script::{parse_module_script, parse_script};
 
-// Files by name and text. A component is its script alone.
-type Sources = &'static [(&'static str, &'static str)];
-
-fn tree(
-    alloc: Global,
-    names: &mut Names,
-    file: u16,
-    name: &str,
-    text: &str,
-) -> Result<FileTree, Fail> {
-    let bytes = text.as_bytes();
-    if bytes.len() >= 100_000 {
-        return Err("too long".into());
-    }
-    if name.ends_with(".js") {
-        let script = parse_module_script(alloc, names, file, bytes)?;
-        return Ok(FileTree::Module(Module { file, script }));
-    }
-    let script = parse_script(alloc, names, file, bytes, 0, bytes.len() as u32)?;
-    let nodes = Nodes::new(alloc);
-    Ok(FileTree::Component(Component {
-        file,
-        script,
-        nodes,
-    }))
-}
-
-fn bundle(alloc: Global, sources: Sources) -> Result<Bundle, Fail> {
-    let mut names = Names::empty(alloc);
-    let mut files = Files::new(alloc);
-    for (file, (name, text)) in sources.iter().enumerate() {
-        if file > 63 {
-            return Err("too many".into());
-        }
-        let tree = tree(alloc, &mut names, file as u16, name, text)?;
-        files.push(SourceFile {
-            name: Text::new(alloc, name)?,
-            lines: LineStarts::new(alloc),
-            tree,
-        })?;
-    }
-    Ok(Bundle { names, files })
-}
-
-// What stands at the places of each file, with `;` behind each and `/` between files.
+// What stands at the places of each file, with `;` behind each and `/` between files. A component is its script alone.
 fn shown(alloc: Global, sources: Sources, places: &Items<Items<Span>>) -> Result<String, Fail> {
     let mut shown = String::new(alloc);
     for (file, places) in places.as_slice().iter().enumerate() {
         if file > 0 {
             shown.push_str("/")?;
         }
-        let text = match sources.get(file) {
-            Some((_, text)) => *text,
-            None => "",
-        };
-        for place in places.as_slice() {
-            let found = text.get(place.from as usize..place.to as usize);
-            shown.push_str(found.unwrap_or("?"))?;
-            shown.push_str(";")?;
+        if let Some((_, text)) = sources.get(file) {
+            push_found(&mut shown, text, places.as_slice())?;
         }
     }
     Ok(shown)
@@ -208,13 +156,13 @@ const UNKNOWN: [(Sources, &str); 12] = [
 ];
 
 fn cycles(alloc: Global, sources: Sources) -> Result<String, Fail> {
-    let bundle = bundle(alloc, sources)?;
+    let bundle = scripts(alloc, sources)?;
     let places = import_cycles(alloc, &bundle)?;
     shown(alloc, sources, &places)
 }
 
 fn unknown(alloc: Global, sources: Sources) -> Result<String, Fail> {
-    let bundle = bundle(alloc, sources)?;
+    let bundle = scripts(alloc, sources)?;
     let places = unknown_imports(alloc, &bundle)?;
     shown(alloc, sources, &places)
 }

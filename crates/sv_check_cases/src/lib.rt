@@ -1,4 +1,4 @@
-//! The checks: what each finds in small programs, and the first mistake of whole ones.
+//! The checks: what each finds in small programs, and the first mistake of whole ones. `places` tells where without the file.
 #![tactic(auto)]
 
 #[cfg(test)]
@@ -7,9 +7,14 @@ mod check;
 mod imports;
 #[cfg(test)]
 mod impure;
+mod places;
+#[cfg(test)]
+mod programs;
 #[cfg(test)]
 mod sites;
 #[cfg(test)]
 mod slots;
 #[cfg(test)]
 mod stains;
+
+pub use places::ends_of;

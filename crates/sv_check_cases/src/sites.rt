@@ -1,21 +1,11 @@
 // The sites of small components.
+use crate::programs::component;
 use std::alloc::{AllocError, Global};
 use std::process::Abort;
 use std::test::Fail;
-use sv_ast::{Component, Ref};
+use sv_ast::Ref;
 use sv_base::{Name, Names, Span};
-use sv_markup::parse_component;
 use sv_sites::{Site, sites_of};
-
-fn read(alloc: Global, text: &str) -> Result<(Names, Component), Fail> {
-    let bytes = text.as_bytes();
-    if bytes.len() >= 100_000 {
-        return Err("too long".into());
-    }
-    let mut names = Names::empty(alloc);
-    let tree = parse_component(alloc, &mut names, 0, bytes)?;
-    Ok((names, tree))
-}
 
 fn push_name(shown: &mut String, names: &Names, name: Name) -> Result<(), AllocError> {
     shown.push_str(names.text(name).unwrap_or("-"))
@@ -103,7 +93,7 @@ fn push_site(
 
 // The sites of a component, each but a slot with the byte at which it begins.
 fn shown(alloc: Global, text: &str) -> Result<String, Fail> {
-    let (names, tree) = read(alloc, text)?;
+    let (names, tree) = component(alloc, text)?;
     let sites = sites_of(alloc, &names, &tree)?;
     let mut shown = String::new(alloc);
     for site in sites.as_slice() {

@@ -1,50 +1,22 @@
 // Small programs of two components, and the mistakes of tags in the first.
+use crate::programs::{components, push_found};
 use std::alloc::Global;
-use std::process::Abort;
 use std::test::Fail;
-use sv_ast::{Bundle, FileTree, Files, LineStarts, Ref, SourceFile};
-use sv_base::{Names, NoMemory, Span, Text};
+use sv_ast::{Bundle, Ref};
+use sv_base::{Names, NoMemory, Span};
 use sv_list::Items;
-use sv_markup::parse_component;
 use sv_names::Distinct;
 use sv_slots::{bad_binds, sheets_of, unknown_props, unknown_slots};
 
-fn source(
-    alloc: Global,
-    names: &mut Names,
-    file: u16,
-    name: &str,
-    text: &str,
-) -> Result<SourceFile, Fail> {
-    let bytes = text.as_bytes();
-    if bytes.len() >= 100_000 {
-        return Err("too long".into());
-    }
-    let tree = parse_component(alloc, names, file, bytes)?;
-    Ok(SourceFile {
-        name: Text::new(alloc, name)?,
-        lines: LineStarts::new(alloc),
-        tree: FileTree::Component(tree),
-    })
-}
-
 // A program of `App.svelte` and `C.svelte`.
 fn bundle(alloc: Global, app: &str, child: &str) -> Result<Bundle, Fail> {
-    let mut names = Names::empty(alloc);
-    let mut files = Files::new(alloc);
-    files.push(source(alloc, &mut names, 0, "App.svelte", app)?)?;
-    files.push(source(alloc, &mut names, 1, "C.svelte", child)?)?;
-    Ok(Bundle { names, files })
+    components(alloc, &[("App.svelte", app), ("C.svelte", child)])
 }
 
 // What stands at the places, with `;` behind each.
 fn shown(alloc: Global, text: &str, places: &Items<Span>) -> Result<String, Fail> {
     let mut shown = String::new(alloc);
-    for place in places.as_slice() {
-        let found = text.get(place.from as usize..place.to as usize);
-        shown.push_str(found.unwrap_or("?"))?;
-        shown.push_str(";")?;
-    }
+    push_found(&mut shown, text, places.as_slice())?;
     Ok(shown)
 }
 

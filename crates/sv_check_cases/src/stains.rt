@@ -1,43 +1,10 @@
 // The pure functions of small programs.
+use crate::programs::scripts;
 use std::alloc::Global;
 use std::test::Fail;
-use sv_ast::{
-    Bundle, Component, FileTree, Files, LineStarts, Module, Nodes, Ref, RefList, Script, SourceFile,
-};
-use sv_base::{Names, NoMemory, Text};
-use sv_script::{parse_module_script, parse_script};
+use sv_ast::{Ref, RefList};
+use sv_base::Names;
 use sv_stains::pure_functions;
-
-fn component(alloc: Global, names: &mut Names, text: &str) -> Result<FileTree, Fail> {
-    let bytes = text.as_bytes();
-    if bytes.len() >= 100_000 {
-        return Err("too long".into());
-    }
-    let script = parse_script(alloc, names, 0, bytes, 0, bytes.len() as u32)?;
-    let nodes = Nodes::new(alloc);
-    Ok(FileTree::Component(Component {
-        file: 0,
-        script,
-        nodes,
-    }))
-}
-
-fn module(alloc: Global, names: &mut Names, text: &str) -> Result<FileTree, Fail> {
-    let bytes = text.as_bytes();
-    if bytes.len() >= 100_000 {
-        return Err("too long".into());
-    }
-    let script: Script = parse_module_script(alloc, names, 0, bytes)?;
-    Ok(FileTree::Module(Module { file: 0, script }))
-}
-
-fn source(alloc: Global, name: &str, tree: FileTree) -> Result<SourceFile, NoMemory> {
-    Ok(SourceFile {
-        name: Text::new(alloc, name)?,
-        lines: LineStarts::new(alloc),
-        tree,
-    })
-}
 
 // The texts of names, each with a space behind it.
 fn spelled(alloc: Global, names: &Names, list: &RefList) -> Result<String, Fail> {
@@ -53,13 +20,7 @@ fn spelled(alloc: Global, names: &Names, list: &RefList) -> Result<String, Fail>
 
 // The pure functions of a component with this script, which may import from `./m.js`.
 fn pure(alloc: Global, script: &str, given: &str) -> Result<String, Fail> {
-    let mut names = Names::empty(alloc);
-    let mut files = Files::new(alloc);
-    let tree = module(alloc, &mut names, given)?;
-    files.push(source(alloc, "m.js", tree)?)?;
-    let tree = component(alloc, &mut names, script)?;
-    files.push(source(alloc, "App.svelte", tree)?)?;
-    let bundle = Bundle { names, files };
+    let bundle = scripts(alloc, &[("m.js", given), ("App.svelte", script)])?;
     let lists = pure_functions(alloc, &bundle)?;
     match lists.as_slice().last() {
         Some(list) => spelled(alloc, &bundle.names, list),

@@ -1,11 +1,10 @@
 // What names and content look at.
+use crate::reading::looks_at;
 use std::alloc::Global;
 use std::test::Fail;
 use sv_ast::Ref;
 use sv_base::{Name, NoMemory, Span, Text};
-use sv_code::{
-    CellList, Code, CodeKind, Frag, FragAttrs, Frags, LetName, LetNames, Locals, Part, Reading,
-};
+use sv_code::{Code, CodeKind, Frag, FragAttrs, Frags, LetName, LetNames, Part, Reading};
 use sv_list::Boxed;
 use sv_names::Distinct;
 use sv_reads::{LocalScope, looked_at, reading};
@@ -43,29 +42,11 @@ fn part(reads: Reading) -> Part {
     }
 }
 
-fn cell(alloc: Global, number: u8) -> Result<Reading, NoMemory> {
-    let mut cells = CellList::new(alloc);
-    cells.push(number)?;
-    Ok(Reading {
-        cells,
-        locals: Locals::new(alloc),
-    })
-}
-
-fn local(alloc: Global, name: Name) -> Result<Reading, NoMemory> {
-    let mut locals = Locals::new(alloc);
-    locals.push(name)?;
-    Ok(Reading {
-        cells: CellList::new(alloc),
-        locals,
-    })
-}
-
 // The nodes `{v}{w}..`.
 fn shows(alloc: Global, names: &[Name]) -> Result<Frags, NoMemory> {
     let mut nodes = Frags::new(alloc);
     for name in names {
-        nodes.push(Frag::Show(part(local(alloc, *name)?)))?;
+        nodes.push(Frag::Show(part(looks_at(alloc, &[], &[*name])?)))?;
     }
     Ok(nodes)
 }
@@ -73,10 +54,10 @@ fn shows(alloc: Global, names: &[Name]) -> Result<Frags, NoMemory> {
 // `{#each a as x (x)}{x}{y}{/each}`, where `a` is the cell 1.
 fn rows(alloc: Global) -> Result<Frag, NoMemory> {
     Ok(Frag::Each {
-        list: part(cell(alloc, 1)?),
+        list: part(looks_at(alloc, &[1], &[])?),
         item: X,
         index: None,
-        key: Some(part(local(alloc, X)?)),
+        key: Some(part(looks_at(alloc, &[], &[X])?)),
         body: shows(alloc, &[X, Y])?,
         none: None,
     })
@@ -89,7 +70,7 @@ fn slot(alloc: Global) -> Result<Frag, NoMemory> {
         name: Text::new(alloc, "")?,
         attrs: FragAttrs::new(alloc),
         own: Frags::new(alloc),
-        reads: cell(alloc, 3)?,
+        reads: looks_at(alloc, &[3], &[])?,
     })
 }
 
@@ -129,7 +110,7 @@ fn content_looks_at_no_row_of_its_own(rt: HostRuntime) -> Result<(), Fail> {
     let alloc = rt.alloc();
     let mut content = Frags::new(alloc);
     content.push(slot(alloc)?)?;
-    content.push(Frag::Show(part(cell(alloc, 1)?)))?;
+    content.push(Frag::Show(part(looks_at(alloc, &[1], &[])?)))?;
     content.push(rows(alloc)?)?;
     let reads = looked_at(alloc, 4, &[], content.as_slice())?;
     assert_eq!(rt; reads.cells.as_slice(), [1, 3].as_slice());

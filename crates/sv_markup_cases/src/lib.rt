@@ -5,7 +5,10 @@
 mod load;
 #[cfg(test)]
 mod markup;
+mod nested;
 #[cfg(test)]
 mod refusals;
 #[cfg(test)]
 mod sources;
+
+pub use nested::repeated;

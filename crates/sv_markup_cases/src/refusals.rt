@@ -1,5 +1,6 @@
 // Each refusal, and the limits.
 use crate::markup::read;
+use crate::nested::repeated;
 use std::alloc::Global;
 use std::test::Fail;
 use sv_ast::{Kind, ParseError};
@@ -163,29 +164,9 @@ fn a_cut_component_is_refused(rt: HostRuntime) -> Result<(), Fail> {
     Ok(())
 }
 
-// A text that repeats its ends behind its front and round its inside.
-fn repeated(
-    alloc: Global,
-    front: &str,
-    times: u32,
-    before: &str,
-    inside: &str,
-    after: &str,
-) -> Result<String, Fail> {
-    let mut text = String::from_str(alloc, front)?;
-    for _ in 0..times {
-        text.push_str(before)?;
-    }
-    text.push_str(inside)?;
-    for _ in 0..times {
-        text.push_str(after)?;
-    }
-    Ok(text)
-}
-
 // A front, how often a text is repeated behind it within the limit, its ends with what they enclose, and where one more is
 // refused.
-const LIMITS: [(&str, u32, &str, &str, &str, u32); 13] = [
+const LIMITS: [(&str, usize, &str, &str, &str, u32); 13] = [
     ("", 32, "<i>", "", "</i>", 96),
     ("", 32, "<A>", "", "</A>", 96),
     ("", 32, "<slot>", "", "</slot>", 192),

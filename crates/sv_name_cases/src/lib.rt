@@ -1,4 +1,4 @@
-//! Names: what stands free, which scopes there are, what is pure, and what is refused, each on small programs.
+//! Names: what stands free, which scopes there are, what is pure, and what is refused, each on small programs. `words` shows names.
 #![tactic(auto)]
 
 #[cfg(test)]
@@ -9,3 +9,8 @@ mod purity;
 mod resolve;
 #[cfg(test)]
 mod scopes;
+#[cfg(test)]
+mod texts;
+mod words;
+
+pub use words::{listed, push_name, push_ref};

@@ -1,5 +1,6 @@
 // Which texts are pure: those of each kind of call, those in which a scope hides a pure function, and those with an impure part;
 // and where others aren't.
+use crate::texts::expression;
 use std::alloc::Global;
 use std::process::Abort;
 use std::test::Fail;
@@ -7,24 +8,16 @@ use sv_ast::{Ref, RefList};
 use sv_base::{Names, Span};
 use sv_names::Distinct;
 use sv_purity::{Scope, first_impurity, is_pure};
-use sv_script::parse_expr;
 
 // Whether a text is pure where this is the one name of a pure function, and the first place where it isn't.
 fn told(alloc: Global, text: &str, function: &str) -> Result<(bool, Option<Span>), Fail> {
-    let bytes = text.as_bytes();
-    if bytes.len() >= 100_000 {
-        return Err("too long".into());
-    }
-    let mut names = Names::new(alloc)?;
+    let mut names = Names::empty(alloc);
     let function = Ref::Plain(names.intern(function)?);
     let mut pure = RefList::new(alloc);
     pure.push(function)?;
     let mut known = Distinct::new(alloc);
     known.add(function)?;
-    let (e, end) = parse_expr(alloc, &mut names, 0, bytes, 0)?;
-    if (end as usize) < bytes.len() {
-        return Err("more than an expression".into());
-    }
+    let e = expression(alloc, &mut names, text)?;
     Ok((
         is_pure(&names, &e, &pure),
         first_impurity(&names, &e, &Scope::Top(&known)),
@@ -211,10 +204,10 @@ fn the_first_impure_place_is_told(rt: HostRuntime) -> Result<(), Fail> {
 #[test]
 fn the_names_of_a_scope_hide_pure_functions(rt: HostRuntime) -> Result<(), Fail> {
     let alloc = rt.alloc();
-    let mut names = Names::new(alloc)?;
+    let mut names = Names::empty(alloc);
     let mut own = Distinct::new(alloc);
     own.add(Ref::Plain(names.intern("f")?))?;
-    let (e, _) = parse_expr(alloc, &mut names, 0, b"l.map(f)", 0)?;
+    let e = expression(alloc, &mut names, "l.map(f)")?;
     let around = Scope::Top(&own);
     let inside = Scope::Hiding {
         outer: &around,

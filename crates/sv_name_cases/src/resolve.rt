@@ -1,30 +1,13 @@
 // The first mistake of small files, and the names of those that show none.
+use crate::texts::{component, script};
 use std::alloc::{AllocError, Global};
 use std::process::Abort;
 use std::test::Fail;
-use sv_ast::{Attrs, Component, Markup, Nodes, Ref, RefList, Script};
-use sv_base::{Names, NoMemory, Span, Text};
-use sv_markup::parse_component;
+use sv_ast::{Component, Nodes, Ref, RefList};
+use sv_base::{Names, NoMemory, Span};
 use sv_resolve::CheckKind::{AssignConst, CapturedAssign, DeclaredTwice, UnknownName};
 use sv_resolve::{CheckError, CheckKind, CheckRefusal, first_mistake, resolve, resolve_module};
 use sv_scopes::{VIEW, scopes_of_component};
-use sv_script::parse_script;
-
-fn script(alloc: Global, names: &mut Names, text: &str) -> Result<Script, Fail> {
-    let bytes = text.as_bytes();
-    if bytes.len() >= 100_000 {
-        return Err("too long".into());
-    }
-    Ok(parse_script(alloc, names, 0, bytes, 0, bytes.len() as u32)?)
-}
-
-fn component(script: Script, nodes: Nodes) -> Component {
-    Component {
-        file: 0,
-        script,
-        nodes,
-    }
-}
 
 fn at(from: u32, to: u32) -> Span {
     Span { file: 0, from, to }
@@ -34,7 +17,11 @@ fn at(from: u32, to: u32) -> Span {
 fn mistake(alloc: Global, text: &str) -> Result<Option<CheckRefusal>, Fail> {
     let mut names = Names::empty(alloc);
     let script = script(alloc, &mut names, text)?;
-    let c = component(script, Nodes::new(alloc));
+    let c = Component {
+        file: 0,
+        script,
+        nodes: Nodes::new(alloc),
+    };
     let scopes = scopes_of_component(alloc, &c)?;
     Ok(first_mistake(alloc, &names, &scopes)?)
 }
@@ -155,17 +142,6 @@ const SEVERAL: [(&str, Mistake); 5] = [
     ),
 ];
 
-// A whole component with the names in it.
-fn read(alloc: Global, text: &str) -> Result<(Names, Component), Fail> {
-    let bytes = text.as_bytes();
-    if bytes.len() >= 100_000 {
-        return Err("too long".into());
-    }
-    let mut names = Names::empty(alloc);
-    let tree = parse_component(alloc, &mut names, 0, bytes)?;
-    Ok((names, tree))
-}
-
 // Statements that are ordered by what they read, in a component that shows what they assign.
 const ORDERED: &str = "<script>
   let n = 1
@@ -177,7 +153,15 @@ const ORDERED: &str = "<script>
 ";
 
 // Components, and the first mistake in their names.
-const COMPONENTS: [(&str, Mistake); 10] = [
+const COMPONENTS: [(&str, Mistake); 14] = [
+    // A tag wants a component.
+    ("<script>import C from './C.svelte'</script><C/>", None),
+    (
+        "<script>import { C } from './C.js'</script><C/>",
+        Some((UnknownName, 44, 45)),
+    ),
+    ("<script>let C</script><C/>", Some((UnknownName, 23, 24))),
+    ("<C/>", Some((UnknownName, 1, 2))),
     (ORDERED, None),
     ("<script>\n  $: x = y;\n  $: y = x;\n</script>\n", None),
     (
@@ -211,12 +195,12 @@ const COMPONENTS: [(&str, Mistake); 10] = [
 #[test]
 fn whole_components_are_resolved(rt: HostRuntime) -> Result<(), Fail> {
     for (text, first) in COMPONENTS {
-        let (names, tree) = read(rt.alloc(), text)?;
+        let (names, tree) = component(rt.alloc(), text)?;
         let refused = resolve(rt.alloc(), &names, &tree).err();
         let wanted = expected(first).map(CheckError::Refused);
         assert_eq!(rt; refused, wanted, "{text}");
     }
-    let (names, tree) = read(rt.alloc(), ORDERED)?;
+    let (names, tree) = component(rt.alloc(), ORDERED)?;
     let scopes = resolve(rt.alloc(), &names, &tree)?;
     let mut shown = String::new(rt.alloc());
     push_names(&mut shown, &names, &scopes.cells)?;
@@ -256,48 +240,6 @@ fn the_first_mistake_is_told(rt: HostRuntime) -> Result<(), Fail> {
     all_are(&rt, rt.alloc(), &SEVERAL)
 }
 
-// The nodes `<C/>`, which begins at 40.
-fn tag(alloc: Global, names: &mut Names) -> Result<Nodes, Fail> {
-    let mut nodes = Nodes::new(alloc);
-    nodes.push(Markup::Comp {
-        span: at(40, 44),
-        name: names.intern("C")?,
-        attrs: Attrs::new(alloc),
-        children: Nodes::new(alloc),
-    })?;
-    Ok(nodes)
-}
-
-#[test]
-fn a_tag_wants_a_component(rt: HostRuntime) -> Result<(), Fail> {
-    let alloc = rt.alloc();
-    for (text, known) in [
-        ("import C from './C.svelte'", true),
-        ("import { C } from './C.js'", false),
-        ("let C", false),
-        ("", false),
-    ] {
-        let mut names = Names::empty(alloc);
-        let script = script(alloc, &mut names, text)?;
-        let nodes = tag(alloc, &mut names)?;
-        let refusal = CheckRefusal {
-            kind: UnknownName,
-            at: at(41, 42),
-        };
-        let refused = resolve(alloc, &names, &component(script, nodes)).err();
-        assert_eq!(rt;
-            refused,
-            if known {
-                None
-            } else {
-                Some(CheckError::Refused(refusal))
-            },
-            "{text}"
-        );
-    }
-    Ok(())
-}
-
 fn push_names(shown: &mut String, names: &Names, list: &RefList) -> Result<(), AllocError> {
     for name in list.as_slice() {
         let (sign, text) = match name {
@@ -314,20 +256,10 @@ fn push_names(shown: &mut String, names: &Names, list: &RefList) -> Result<(), A
     Ok(())
 }
 
-// The cells of a component with a `<slot>` or without, and behind `|` its constants.
-fn names_of(alloc: Global, text: &str, with_slot: bool) -> Result<String, Fail> {
-    let mut names = Names::empty(alloc);
-    let script = script(alloc, &mut names, text)?;
-    let mut nodes = Nodes::new(alloc);
-    if with_slot {
-        nodes.push(Markup::Slot {
-            span: at(0, 7),
-            name: Text::new(alloc, "")?,
-            attrs: Attrs::new(alloc),
-            children: Nodes::new(alloc),
-        })?;
-    }
-    let scopes = resolve(alloc, &names, &component(script, nodes))?;
+// The cells of a component, and behind `|` its constants.
+fn names_of(alloc: Global, text: &str) -> Result<String, Fail> {
+    let (names, tree) = component(alloc, text)?;
+    let scopes = resolve(alloc, &names, &tree)?;
     let mut shown = String::new(alloc);
     push_names(&mut shown, &names, &scopes.cells)?;
     shown.push_str("|")?;
@@ -335,22 +267,32 @@ fn names_of(alloc: Global, text: &str, with_slot: bool) -> Result<String, Fail> 
     Ok(shown)
 }
 
+// Components, and what their names are.
+const NAMES: [(&str, &str); 6] = [
+    ("", "|"),
+    (
+        "<script>let a; export let b; $: c = a; const d = 1</script>",
+        "abc|d",
+    ),
+    (
+        "<script>$: a = b; $: c = a; let b; $: a = 1</script>",
+        "acb|",
+    ),
+    ("<script>$: { $s; x => $t }; let a; $s</script>", "a $s $t|"),
+    (
+        "<script>let a = $s; { let b }</script><slot/>",
+        "a $s $view|",
+    ),
+    (
+        "<script>import C from './C.svelte'; function f() {}\nimport { g } from './g.js'; let h</script>",
+        "h|Cfg",
+    ),
+];
+
 #[test]
 fn cells_are_variables_then_stores_then_the_view(rt: HostRuntime) -> Result<(), Fail> {
-    let alloc = rt.alloc();
-    for (text, with_slot, shown) in [
-        ("", false, "|"),
-        ("let a; export let b; $: c = a; const d = 1", false, "abc|d"),
-        ("$: a = b; $: c = a; let b; $: a = 1", false, "acb|"),
-        ("$: { $s; x => $t }; let a; $s", false, "a $s $t|"),
-        ("let a = $s; { let b }", true, "a $s $view|"),
-        (
-            "import C from './C.svelte'; function f() {}\nimport { g } from './g.js'; let h",
-            false,
-            "h|Cfg",
-        ),
-    ] {
-        assert_eq!(rt; names_of(alloc, text, with_slot)?.as_str(), shown, "{text}");
+    for (text, shown) in NAMES {
+        assert_eq!(rt; names_of(rt.alloc(), text)?.as_str(), shown, "{text}");
     }
     Ok(())
 }

@@ -1,7 +1,8 @@
 // Each call once with ample memory, and what it answers.
+use crate::moves::is_move;
 use std::test::Fail;
 use sv_base::Text;
-use sv_dom::{Attr, Change, Dom, Typed};
+use sv_dom::{Attr, Dom, Typed};
 
 #[test]
 fn a_text_is_set(rt: HostRuntime) -> Result<(), Fail> {
@@ -57,18 +58,6 @@ fn a_move_is_told_where_it_is_seen(rt: HostRuntime) -> Result<(), Fail> {
     drop(past_an_anchor);
     drop(to_the_end);
     Ok(())
-}
-
-fn is_move(told: &Option<Change>, serial: u64, before: u64) -> bool {
-    match told {
-        Some(
-            Change::Move {
-                serial: moved,
-                before: next,
-            },
-        ) => *moved == serial && *next == before,
-        _ => false,
-    }
 }
 
 #[test]

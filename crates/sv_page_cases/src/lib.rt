@@ -1,7 +1,10 @@
-//! Page trees: small ones that are built, changed and printed.
+//! Page trees: small ones that are built, changed and printed. `moves` tells a move from other changes.
 #![tactic(auto)]
 
 #[cfg(test)]
 mod dom;
 #[cfg(test)]
 mod html;
+mod moves;
+
+pub use moves::is_move;

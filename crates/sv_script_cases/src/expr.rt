@@ -1,57 +1,11 @@
 // Each line of the grammar, and each refusal.
-ghost use Rattle.sv_script_cases.specs.Alone.{alone, empty_block};
-ghost use Rattle.sv_lex.specs.Reader.{Reads};
-
+use crate::reader::inside;
 use std::alloc::{AllocError, Global};
-use std::marker::PhantomData;
 use std::test::Fail;
-use sv_ast::{Body, Entry, Expr, ExprKind, Field, Kind, ParseError, Stmts};
+use sv_ast::{Body, Entry, Expr, ExprKind, Field, Kind, ParseError};
 use sv_base::Names;
-use sv_expr::{Enclosed, Form, Grammar, NEST_LIMIT};
-use sv_lex::{Lexeme, Tokens};
-
-// Expressions whose arrows have no statements.
-struct Alone;
-
-impl Enclosed for Alone {
-    ghost use Rattle.sv_script_cases.specs.Alone.{alone};
-
-    ghost readers = { alone };
-}
-
-#[cycle(alone)]
-fn inside(
-    alloc: Global,
-    tokens: &mut Tokens<'_>,
-    room: usize,
-    form: Form,
-) -> Result<Expr, ParseError>
-    ensures { Reads ((alone room).inside form tokens.old) result tokens.new }
-{
-    if room == 0 {
-        return Err(tokens.refuse(Kind::TooDeep));
-    }
-    let grammar = Grammar {
-        alloc,
-        room: room - 1,
-        inside,
-        block,
-        of: PhantomData::<Alone>,
-    };
-    grammar.level(tokens, form)
-}
-
-// A block with nothing in it.
-fn block(alloc: Global, tokens: &mut Tokens<'_>, room: usize) -> Result<Stmts, ParseError>
-    ensures { Reads ((alone room).block tokens.old) result tokens.new }
-{
-    if room == 0 {
-        return Err(tokens.refuse(Kind::TooDeep));
-    }
-    tokens.expect(Lexeme::LBrace)?;
-    tokens.expect(Lexeme::RBrace)?;
-    Ok(Stmts::new(alloc))
-}
+use sv_expr::{Form, NEST_LIMIT};
+use sv_lex::Tokens;
 
 // The expression at the front of a text, and the place behind it.
 fn read(alloc: Global, text: &str) -> Result<Result<(Expr, u32), ParseError>, Fail> {
@@ -60,14 +14,7 @@ fn read(alloc: Global, text: &str) -> Result<Result<(Expr, u32), ParseError>, Fa
     }
     let known = Names::empty(alloc);
     let mut tokens = Tokens::new(alloc, &known, 0, text.as_bytes(), 0);
-    let grammar = Grammar {
-        alloc,
-        room: NEST_LIMIT,
-        inside,
-        block,
-        of: PhantomData::<Alone>,
-    };
-    match grammar.level(&mut tokens, Form::Whole) {
+    match inside(alloc, &mut tokens, NEST_LIMIT + 1, Form::Whole) {
         Ok(tree) => Ok(Ok((tree, tokens.at()))),
         Err(refusal) => Ok(Err(refusal)),
     }

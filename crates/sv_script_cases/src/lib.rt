@@ -1,7 +1,11 @@
-//! Scripts by their text: what the parsers of expressions and scripts make of small ones, and what they refuse.
+//! Expressions and scripts by their text: each line of the grammar, each statement, each refusal, and the limits. `reader` reads expressions
+//! with no statements in them.
 #![tactic(auto)]
 
 #[cfg(test)]
 mod expr;
+mod reader;
 #[cfg(test)]
 mod script;
+
+pub use reader::{block, inside};

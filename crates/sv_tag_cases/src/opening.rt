@@ -1,5 +1,5 @@
 // Each form of attribute, and each refusal of an opening.
-use crate::tags::source;
+use crate::place::source;
 use std::alloc::{AllocError, Global};
 use std::test::Fail;
 use sv_ast::{AttrKind, AttrPart, AttrValue, Kind, ParseError, Refused, TagAttr};
@@ -58,7 +58,7 @@ fn read_opening(
     owned: bool,
 ) -> Result<Result<String, ParseError>, Fail> {
     let known = Names::empty(alloc);
-    let mut source = source(alloc, &known, text)?;
+    let mut source = source(alloc, &known, text).ok_or("too long")?;
     let opening = match opening_tag(alloc, &mut source, tag, owned, 1, 90) {
         Ok(opening) => opening,
         Err(refused) => return Ok(Err(refused)),

@@ -1,42 +1,11 @@
 // Texts, braces, and what is raw.
-ghost use Rattle.std.specs.Prelude.{◌<◌};
-
-use std::alloc::Global;
+use crate::place::{refusal, source};
 use std::test::Fail;
-use sv_ast::{Kind, ParseError, Refused};
-use sv_base::{Names, Span};
-use sv_lex::Source;
+use sv_ast::Kind;
+use sv_base::Names;
 use sv_tags::{
     Filling, Quote, Setting, Tag, braces, comment, script, style, tag_end, tag_of, text,
 };
-
-// A cursor at the front of a text, which stands at the place 100 of the file 3.
-pub(crate) fn source<'a>(
-    alloc: Global,
-    known: &'a Names,
-    text: &'a str,
-) -> Result<Source<'a>, Fail> {
-    if text.len() < 1000 {
-        Ok(Source::new(alloc, known, 3, text.as_bytes(), 100))
-    } else {
-        Err("too long".into())
-    }
-}
-
-// A refusal at bytes of the text.
-fn refusal(kind: Kind, from: u32, to: u32) -> ParseError
-    requires from { from < 1000 }
-    requires to { to < 1000 }
-{
-    ParseError::Refused(Refused {
-        kind,
-        at: Span {
-            file: 3,
-            from: 100 + from,
-            to: 100 + to,
-        },
-    })
-}
 
 // A text, where it stands, what is read of it, and how many bytes are left.
 const TEXTS: [(&str, Setting, &str, usize); 16] = [
@@ -62,7 +31,7 @@ const TEXTS: [(&str, Setting, &str, usize); 16] = [
 fn texts_are_read_as_far_as_they_go(rt: HostRuntime) -> Result<(), Fail> {
     let known = Names::empty(rt.alloc());
     for (from, setting, found, left) in TEXTS {
-        let mut source = source(rt.alloc(), &known, from)?;
+        let mut source = source(rt.alloc(), &known, from).ok_or("too long")?;
         let read = text(rt.alloc(), &mut source, setting)?;
         assert_eq!(rt; read.as_str(), found, "{from}");
         assert_eq!(rt; source.left(), left, "{from}");
@@ -85,7 +54,7 @@ fn other_references_are_left_out(rt: HostRuntime) -> Result<(), Fail> {
     let known = Names::empty(rt.alloc());
     for (from, kind, at) in BAD_TEXTS {
         if at < 1000 {
-            let mut source = source(rt.alloc(), &known, from)?;
+            let mut source = source(rt.alloc(), &known, from).ok_or("too long")?;
             let read = text(rt.alloc(), &mut source, Setting::Body).err();
             assert_eq!(rt; read, Some(refusal(kind, at, at)), "{from}");
         }
@@ -96,7 +65,7 @@ fn other_references_are_left_out(rt: HostRuntime) -> Result<(), Fail> {
 #[test]
 fn braces_are_a_construct(rt: HostRuntime) -> Result<(), Fail> {
     let known = Names::empty(rt.alloc());
-    let mut source = source(rt.alloc(), &known, "{a}b")?;
+    let mut source = source(rt.alloc(), &known, "{a}b").ok_or("too long")?;
     assert!(rt; source.text().len() >= 1);
     let refused = braces(rt.alloc(), &mut source, Filling::Value, 0).err();
     assert_eq!(rt; refused, Some(refusal(Kind::TooDeep, 0, 0)));
@@ -115,12 +84,12 @@ fn comments_end_at_the_first_end(rt: HostRuntime) -> Result<(), Fail> {
         ("<!-- a > -- -->-->", 3),
         ("<!--\n<a>{-->b", 1),
     ] {
-        let mut source = source(rt.alloc(), &known, text)?;
+        let mut source = source(rt.alloc(), &known, text).ok_or("too long")?;
         assert!(rt; source.text().len() >= 4);
         comment(&mut source)?;
         assert_eq!(rt; source.left(), left, "{text}");
     }
-    let mut source = source(rt.alloc(), &known, "<!--->")?;
+    let mut source = source(rt.alloc(), &known, "<!--->").ok_or("too long")?;
     assert!(rt; source.text().len() >= 4);
     assert_eq!(rt;
         comment(&mut source).err(),
@@ -146,7 +115,7 @@ const SCRIPTS: [(&str, Result<(usize, usize), (Kind, u32, u32)>); 9] = [
 fn scripts_go_to_their_end(rt: HostRuntime) -> Result<(), Fail> {
     let known = Names::empty(rt.alloc());
     for (text, found) in SCRIPTS {
-        let mut source = source(rt.alloc(), &known, text)?;
+        let mut source = source(rt.alloc(), &known, text).ok_or("too long")?;
         assert!(rt; source.text().len() >= 7);
         let read = script(rt.alloc(), &mut source);
         match found {
@@ -175,7 +144,7 @@ const STYLES: [(&str, Result<usize, (Kind, u32)>); 4] = [
 fn styles_go_to_their_end(rt: HostRuntime) -> Result<(), Fail> {
     let known = Names::empty(rt.alloc());
     for (text, found) in STYLES {
-        let mut source = source(rt.alloc(), &known, text)?;
+        let mut source = source(rt.alloc(), &known, text).ok_or("too long")?;
         assert!(rt; source.text().len() >= 6);
         let read = style(&mut source);
         match found {
@@ -199,7 +168,7 @@ fn tags_are_told_by_their_names(rt: HostRuntime) -> Result<(), Fail> {
         assert_eq!(rt; tag_of(name.as_bytes()), tag, "{name}");
     }
     let known = Names::empty(rt.alloc());
-    let mut source = source(rt.alloc(), &known, " \n>>")?;
+    let mut source = source(rt.alloc(), &known, " \n>>").ok_or("too long")?;
     tag_end(&mut source)?;
     assert_eq!(rt; source.left(), 1);
     Ok(())

@@ -27,7 +27,7 @@ fn printed(alloc: Global, case: &Case) -> Result<(Status, String), Fail> {
     Ok((status, String::from_utf8_lossy(alloc, out.written())?))
 }
 
-const CASES: [Case; 8] = [
+const CASES: [Case; 9] = [
     // Reactive statements stand in the order in which they run.
     Case {
         files: &[(
@@ -59,6 +59,15 @@ const CASES: [Case; 8] = [
             "<script>\n  let rows = []\n  let n = 0\n</script>\n{#each rows as r, i (r.id + n)}<p>{i}{r.id}{n}</p>{:else}{n}{/each}\n",
         )],
         output: "component App.svelte\ncell 0 rows\ncell 1 n\npart 5:8 reads rows,n\npart 5:22 reads n,r\npart 5:36 reads i\npart 5:39 reads r\npart 5:45 reads n\npart 5:59 reads n\n",
+        status: Status::Ok,
+    },
+    // Branches and keys stand in the order of the text.
+    Case {
+        files: &[(
+            "App.svelte",
+            "<script>\n  let a = 1\n  let b = 2\n  let c = 3\n</script>\n{#if a}{a}{:else if b}{b}{:else}{c}{/if}{#key a}{b}{/key}\n",
+        )],
+        output: "component App.svelte\ncell 0 a\ncell 1 b\ncell 2 c\npart 6:6 reads a\npart 6:9 reads a\npart 6:21 reads b\npart 6:24 reads b\npart 6:34 reads c\npart 6:47 reads a\npart 6:50 reads b\n",
         status: Status::Ok,
     },
     // Attributes of several parts, and directives with and without an expression; `on:` is no part.

@@ -1,7 +1,7 @@
 use Rattle.std.proofs.Common.{◌≡◌, arith, refl}
 use Rattle.sv_script_cases.specs.Alone.{alone}
 use Rattle.sv_expr.proofs.Turns.{deeper}
-use Rattle.sv_script_cases.proofs.expr.+alone.Goals as goal
+use Rattle.sv_script_cases.proofs.reader.+alone.Goals as goal
 
 pub returns-then-room-eq0 : goal.returns-then-room-eq0
 unfolding alone

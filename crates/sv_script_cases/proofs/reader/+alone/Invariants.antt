@@ -1,4 +1,4 @@
-use Rattle.sv_script_cases.proofs.expr.+alone.Given as goal
+use Rattle.sv_script_cases.proofs.reader.+alone.Given as goal
 
 abbrev pub decreases-inside : goal.decreases-inside
 decreases-inside l = l.room

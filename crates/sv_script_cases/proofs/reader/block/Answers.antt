@@ -2,7 +2,7 @@ use Rattle.std.proofs.Common.{◌≡◌, ◌-◌, rules, arith, refl}
 use Rattle.std.proofs.lemmas.Grind.{common_steps}
 use Rattle.sv_script_cases.specs.Alone.{alone, empty_block}
 use Rattle.sv_expr.proofs.Turns.{deeper}
-use Rattle.sv_script_cases.proofs.expr.block.Goals as goal
+use Rattle.sv_script_cases.proofs.reader.block.Goals as goal
 
 pub returns-then-room-eq0 : goal.returns-then-room-eq0
 unfolding alone
