@@ -1,3 +1,5 @@
 pub mod Order
-pub mod Lines
 pub mod OneProgram
+pub mod Reacting
+pub mod Files
+pub mod Compiled

@@ -1,9 +1,10 @@
 // Whole programs.
-ghost use Rattle.std.specs.Prelude.{◌≡◌, ℕ, ◌≤◌, ◌<◌, true, Some, length, slice_get, All, IfOk, OnOk};
+ghost use Rattle.std.specs.Prelude.{◌≡◌, ℕ, ◌≤◌, ◌<◌, Some, length, slice_get, All, IfOk, OnOk};
 ghost use Rattle.sv_ast.specs.declared.files.SourceFile.{SourceFile as AnySource};
 ghost use Rattle.sv_check.specs.declared.checked.CheckedComponent.{CheckedComponent as Told};
 ghost use Rattle.sv_check.specs.Checked.{IsChecked, AreChecked};
-ghost use Rattle.sv_lines.specs.Lines.{ascends, LinesAscend};
+ghost use Rattle.sv_code.specs.Compiled.{IsCompiled};
+ghost use Rattle.sv_lines.specs.Lines.{LinesAscend};
 ghost use Rattle.sv_compile.specs.Compile as spec;
 ghost use Rattle.sv_compile.specs.Runs.{reactives};
 
@@ -29,7 +30,7 @@ pub fn compile(alloc: Global, checked: &Checked<'_>) -> Result<Program, NoMemory
     requires checked { AreChecked checked.now.bundle.now checked.now.components }
     requires lines { LinesAscend checked.now.bundle.now.files }
     ensures program { IfOk result (λ program. program ≡ spec.program checked.now.bundle.now checked.now.components) }
-    ensures lines { IfOk result (λ program. All (λ file. ascends file.lines ≡ true) program.files) }
+    ensures compiled { IfOk result IsCompiled }
 {
     let bundle = checked.bundle;
     let mut functions = Functions::new(alloc);

@@ -1,3 +1,5 @@
 pub mod Natural
-pub mod Numbers
+pub mod Kept
 pub mod Nodes
+pub mod Looking
+pub mod Naming

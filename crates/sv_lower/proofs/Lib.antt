@@ -1,1 +1,3 @@
 pub mod Four
+pub mod Keeping
+pub mod Lowering

@@ -58,6 +58,7 @@ pub fn decide_print<F: Shelf>(alloc: Global, root: &str, shelf: &mut F) -> Resul
 }
 
 // The listing of a checked program.
+#[tactic(auto, using(sv_code::proofs::Compiled::lines_ascend))]
 fn listed(alloc: Global, checked: &Checked<'_>) -> Result<Job, ShelfError>
     requires checked { AreChecked checked.now.bundle.now checked.now.components }
     requires lines { LinesAscend checked.now.bundle.now.files }

@@ -4,7 +4,7 @@ use Rattle.std.specs.Prelude.{Result, Ok, Err, IfOk}
 use Rattle.sv_white.specs.White.{kept}
 use Rattle.sv_frags.specs.Pieces.{IsNumber}
 use Rattle.sv_frags.proofs.Nodes.{kept_made}
-use Rattle.sv_frags.proofs.Numbers.{kept_numbers}
+use Rattle.sv_frags.proofs.Kept.{kept_all}
 use Rattle.sv_frags.proofs.pieces.kept_nodes.Goals as goal
 
 if_ok : {A E : Type 0} (result : Result A E) {P Q : A → Type 0} → ((x : A) → P x → Q x) → IfOk result P → IfOk result Q
@@ -21,5 +21,5 @@ pub returns-clause-numbers : goal.returns-clause-numbers
 returns-clause-numbers t =
     let count = length t.args.nodes.now in
     if_ok t.kept.result
-    (λ left is. subst (All (IsNumber count)) (sym (is ∙ ap (kept t.args.strips) t.deref.ensures.value)) (kept_numbers count t.args.strips t.in_ok-pieces.pieces.items t.in_ok-pieces.ensures.numbers))
+    (λ left is. subst (All (IsNumber count)) (sym (is ∙ ap (kept t.args.strips) t.deref.ensures.value)) (kept_all (IsNumber count) (λ text. tt) t.args.strips t.in_ok-pieces.pieces.items t.in_ok-pieces.ensures.numbers))
     t.kept.ensures

@@ -1,0 +1,119 @@
+-- The reactive statements of a compiled script.
+use Rattle.std.proofs.Common.{◌≡◌, ℕ, zero, suc, ◌+◌, ◌<◌, Bool, true, false, cond, List, [], ◌∷◌, ◌++◌, Option, None, Some, length, filter, option_map, refl, sym, ap, subst, ◌∙◌, arith}
+use Rattle.std.specs.List.{All, flat_map}
+use Rattle.std.specs.Option.{option_to_list}
+use Rattle.std.specs.Prelude.{slice_get, if◌then◌else◌}
+use Rattle.std.proofs.lemmas.List.Elements.{All-nil, All-cons, All-append, All-head, All-tail}
+use Rattle.std.proofs.lemmas.Option.{none-some, same_Some}
+use Rattle.sv_ast.specs.declared.names.Ref.{Ref}
+use Rattle.sv_ast.specs.declared.script_tree.Body.{Body}
+use Rattle.sv_ast.specs.declared.script_tree.Entry.{Entry}
+use Rattle.sv_ast.specs.declared.script_tree.ExprKind.{ExprKind}
+use Rattle.sv_ast.specs.declared.script_tree.Field.{Field}
+use Rattle.sv_ast.specs.declared.script_tree.Arm.{Arm}
+use Rattle.sv_ast.specs.declared.script_tree.Decl.{Decl}
+use Rattle.sv_ast.specs.declared.script_tree.Expr.{Expr}
+use Rattle.sv_ast.specs.declared.script_tree.Link.{Link}
+use Rattle.sv_ast.specs.declared.script_tree.Stmt.{Stmt, out-Stmt, fold_out-Stmt}
+use Rattle.sv_ast.specs.declared.script_tree.StmtKind.{StmtKind, StmtKind-F, out-StmtKind, map-StmtKind, fold_out-StmtKind}
+use Rattle.sv_code.specs.Compiled.{is_react, is_reactive as is_reactive_code, IsRun}
+use Rattle.sv_code.specs.declared.code.Code.{Code}
+use Rattle.sv_code.specs.declared.code.CodeField.{CodeField}
+use Rattle.sv_code.specs.declared.code.CodeItem.{CodeItem}
+use Rattle.sv_code.specs.declared.code.CodeKind.{CodeKind}
+use Rattle.sv_code.specs.declared.code.CodeLink.{CodeLink}
+use Rattle.sv_code.specs.declared.functions.CodeArm.{CodeArm}
+use Rattle.sv_code.specs.declared.functions.CodeDecl.{CodeDecl}
+use Rattle.sv_code.specs.declared.functions.CodeStmt.{CodeStmt}
+use Rattle.sv_code.specs.declared.functions.CodeStmtKind.TheVariants as stmt_code
+use Rattle.sv_code.specs.declared.functions.CodeStmtKind
+use Rattle.sv_code.specs.declared.functions.CodeStmtKind.{CodeStmtKind as AnyKind, out-CodeStmtKind}
+use Rattle.sv_code.specs.declared.functions.Function.{Function}
+use Rattle.sv_code.specs.declared.functions.FunctionBody.{FunctionBody}
+use Rattle.sv_code.specs.declared.program.Run.{Run}
+use Rattle.sv_check.specs.Waiting.{is_reactive, is_reactive_layer}
+use Rattle.sv_frags.proofs.Looking.{numbers_within}
+use Rattle.sv_lower.specs.Does.{Does}
+use Rattle.sv_lower.specs.Lower.{body, entry, expr_kind, field, stmt_kind, arm, decl, expr, link, stmt, of_body, of_entry, of_kind, of_field, of_stmt_kind, of_arm, of_decl, of_expr, of_link, of_stmt, of_stmts}
+use Rattle.sv_names.specs.Uses.{read_names, assigned_names}
+use Rattle.sv_imports.specs.Imports.{StmtLayer}
+use Rattle.sv_compile.specs.Runs.{placed, reactives_from, reactives, run, run_at, runs}
+
+-- ---- statements stay in their places
+
+pub record CodeAt (stmts : List Stmt) (before : List Function) (n : ℕ) (s : Stmt) : Type 0 where
+  pub functions : List Function
+  pub is : slice_get (of_stmts stmts before).0 n ≡ Some (of_stmt s functions).0
+
+pub code_at : (stmts : List Stmt) (before : List Function) (n : ℕ) (s : Stmt) → slice_get stmts n ≡ Some s → CodeAt stmts before n s
+code_at [] before n s is = absurd (none-some s is)
+code_at (x ∷ stmts) before zero s is = record { functions = before; is = ap (λ (z : Stmt). Some (of_stmt z before).0) (same_Some x s is) }
+code_at (x ∷ stmts) before (suc n) s is = let later = code_at stmts (of_stmt x before).1 n s is in record { functions = later.functions; is = later.is }
+
+-- a reactive statement stays one
+reacts : (x : CodeStmt) → is_react (out-CodeStmtKind (stmt_code.React x)) ≡ true
+unfolding CodeStmtKind.roll-CodeStmtKind denote.Hole.Carrier.roll out-CodeStmtKind denote.Hole.Carrier.out
+reacts x = refl
+
+layer_reacts : (layer : StmtLayer) (fs : List Function) → is_reactive_layer layer ≡ true
+    → is_react (out-CodeStmtKind (stmt_kind (map-StmtKind Body Entry ExprKind Field StmtKind Arm Decl Expr Link Stmt (Does FunctionBody) (Does CodeItem) (Does CodeKind) (Does CodeField) (Does AnyKind) (Does CodeArm) (Does CodeDecl) (Does Code) (Does CodeLink) (Does CodeStmt) of_body of_entry of_kind of_field of_stmt_kind of_arm of_decl of_expr of_link of_stmt layer) fs).0) ≡ true
+layer_reacts (StmtKind-F.React of) fs e = reacts (of_stmt of fs).0
+layer_reacts _ fs e = absurd (cc)
+
+kind_reacts : (k : StmtKind) (fs : List Function) → is_reactive_layer (out-StmtKind k) ≡ true → is_react (out-CodeStmtKind (of_stmt_kind k fs).0) ≡ true
+kind_reacts k fs e = subst (λ (d : Does AnyKind). is_react (out-CodeStmtKind (d fs).0) ≡ true) (sym (fold_out-StmtKind (Does FunctionBody) (Does CodeItem) (Does CodeKind) (Does CodeField) (Does AnyKind) (Does CodeArm) (Does CodeDecl) (Does Code) (Does CodeLink) (Does CodeStmt) body entry expr_kind field stmt_kind arm decl expr link stmt k)) (layer_reacts (out-StmtKind k) fs e)
+
+react_stays : (s : Stmt) (fs : List Function) → is_reactive s ≡ true → is_reactive_code (of_stmt s fs).0 ≡ true
+react_stays s fs e = subst (λ (d : Does CodeStmt). is_reactive_code (d fs).0 ≡ true) (sym (fold_out-Stmt (Does FunctionBody) (Does CodeItem) (Does CodeKind) (Does CodeField) (Does AnyKind) (Does CodeArm) (Does CodeDecl) (Does Code) (Does CodeLink) (Does CodeStmt) body entry expr_kind field stmt_kind arm decl expr link stmt s)) (kind_reacts s.kind fs e)
+
+-- ---- reactive statements are told from the others
+
+-- a statement of a script, by its place, that is reactive
+pub record IsPlaced (stmts : List Stmt) (p : ℕ × Stmt) : Type 0 where
+  pub stands : slice_get stmts p.0 ≡ Some p.1
+  pub reacts : is_reactive p.1 ≡ true
+
+chosen : (whole : List Stmt) (b : Bool) (p : ℕ × Stmt) (more : List (ℕ × Stmt)) → is_reactive p.1 ≡ b → slice_get whole p.0 ≡ Some p.1 → All (IsPlaced whole) more → All (IsPlaced whole) (if b then p ∷ more else more)
+chosen whole true p more e is h = All-cons (IsPlaced whole) p more (record { stands = is; reacts = e }) h
+chosen whole false p more e is h = h
+
+placed_from : (whole : List Stmt) (n : ℕ) (stmts : List Stmt) → ((k : ℕ) (s : Stmt) → slice_get stmts k ≡ Some s → slice_get whole (n + k) ≡ Some s) → All (IsPlaced whole) (reactives_from n stmts)
+placed_from whole n [] h = All-nil (IsPlaced whole)
+placed_from whole n (s ∷ stmts) h =
+    let here : slice_get whole n ≡ Some s = subst (λ m. slice_get whole m ≡ Some s) (omega arith) (h zero s refl) in
+    let later = placed_from whole (n + 1) stmts (λ k x is. subst (λ m. slice_get whole m ≡ Some x) (omega arith) (h (suc k) x is)) in
+    chosen whole (is_reactive s) (n, s) (reactives_from (n + 1) stmts) refl here later
+
+reactives_placed : (stmts : List Stmt) → All (IsPlaced stmts) (reactives stmts)
+reactives_placed stmts = placed_from stmts zero stmts (λ k s is. subst (λ m. slice_get stmts m ≡ Some s) (omega arith) is)
+
+-- ---- what is run
+
+all_at : {X : Type 0} (P : X → Type 0) (xs : List X) (n : ℕ) (x : X) → All P xs → slice_get xs n ≡ Some x → P x
+all_at P [] n x h is = absurd (none-some x is)
+all_at P (y ∷ xs) zero x h is = subst P (same_Some y x is) (All-head P y xs h)
+all_at P (y ∷ xs) (suc n) x h is = all_at P xs n x (All-tail P y xs h) is
+
+run_is : (cells : List Ref) (stmts : List Stmt) (before : List Function) (number : ℕ) (p : ℕ × Stmt) → IsPlaced stmts p → IsRun (length cells) (of_stmts stmts before).0 (run cells number p)
+run_is cells stmts before number p is =
+    let code = code_at stmts before p.0 p.1 is.stands in
+    record {
+      stmt = (of_stmt p.1 code.functions).0;
+      stands = code.is;
+      reactive = react_stays p.1 code.functions is.reacts;
+      reads = numbers_within cells (read_names p.1);
+      sets = numbers_within cells (assigned_names p.1);
+    }
+
+run_found : (cells : List Ref) (stmts : List Stmt) (before : List Function) (number : ℕ) (o : Option (ℕ × Stmt)) → slice_get (reactives stmts) number ≡ o
+    → All (IsRun (length cells) (of_stmts stmts before).0) (option_to_list (option_map (run cells number) o))
+run_found cells stmts before number None e = All-nil (IsRun (length cells) (of_stmts stmts before).0)
+run_found cells stmts before number (Some p) e =
+    All-cons (IsRun (length cells) (of_stmts stmts before).0) (run cells number p) [] (run_is cells stmts before number p (all_at (IsPlaced stmts) (reactives stmts) number p (reactives_placed stmts) e)) (All-nil (IsRun (length cells) (of_stmts stmts before).0))
+
+-- each of them is a reactive statement of its script, and names cells that are there
+pub runs_are : (cells : List Ref) (stmts : List Stmt) (before : List Function) (order : List ℕ) → All (IsRun (length cells) (of_stmts stmts before).0) (runs cells (reactives stmts) order)
+runs_are cells stmts before [] = All-nil (IsRun (length cells) (of_stmts stmts before).0)
+runs_are cells stmts before (number ∷ order) =
+    All-append (IsRun (length cells) (of_stmts stmts before).0) (run_at cells (reactives stmts) number) (runs cells (reactives stmts) order)
+    (run_found cells stmts before number (slice_get (reactives stmts) number) refl) (runs_are cells stmts before order)

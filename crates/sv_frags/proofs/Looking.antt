@@ -1,0 +1,46 @@
+-- What is looked at is there.
+use Rattle.std.proofs.Common.{◌≡◌, ℕ, zero, suc, ◌+◌, ◌<◌, Bool, true, false, List, [], ◌∷◌, ◌++◌, length, map, refl, arith}
+use Rattle.std.specs.List.{All, list_any}
+use Rattle.std.specs.Prelude.{nat_eq}
+use Rattle.std.proofs.lemmas.List.Elements.{All-nil, All-cons, All-append, All-map}
+use Rattle.sv_ast.specs.declared.names.Ref.{Ref}
+use Rattle.sv_code.specs.declared.fragments.Frag.{Frag}
+use Rattle.sv_code.specs.declared.fragments.LetName.{LetName}
+use Rattle.sv_code.specs.Numbers.{OfCell, IsThere, counts, of_reading}
+use Rattle.sv_code.proofs.Compiled.{all_mono}
+use Rattle.sv_lower.proofs.Keeping.{Always}
+use Rattle.sv_names.specs.Distinct.{has}
+use Rattle.sv_reads.specs.Looks.{among_from, looked_at}
+use Rattle.sv_reads.specs.Reading.{number_if, numbers_from, numbers, reading}
+
+if_below : (b : Bool) (n top : ℕ) → n < top → All (λ k. k < top) (number_if b n)
+if_below true n top h = All-cons (λ k. k < top) n [] h (All-nil (λ k. k < top))
+if_below false n top h = All-nil (λ k. k < top)
+
+numbers_below : (n : ℕ) (cells names : List Ref) → All (λ k. k < n + length cells) (numbers_from n cells names)
+numbers_below n [] names = All-nil (λ k. k < n + zero)
+numbers_below n (cell ∷ cells) names =
+    All-append (λ k. k < n + suc (length cells)) (number_if (has cell names) n) (numbers_from (suc n) cells names)
+    (if_below (has cell names) n (n + suc (length cells)) (omega arith))
+    (all_mono (λ k. k < suc n + length cells) (λ k. k < n + suc (length cells)) (λ k h. omega (arith, h)) (numbers_from (suc n) cells names) (numbers_below (suc n) cells names))
+
+among_below : (n count : ℕ) (numbers : List ℕ) → All (λ k. k < n + count) (among_from n count numbers)
+among_below n zero numbers = All-nil (λ k. k < n + zero)
+among_below n (suc count) numbers =
+    All-append (λ k. k < n + suc count) (number_if (list_any (nat_eq n) numbers) n) (among_from (suc n) count numbers)
+    (if_below (list_any (nat_eq n) numbers) n (n + suc count) (omega arith))
+    (all_mono (λ k. k < suc n + count) (λ k. k < n + suc count) (λ k h. omega (arith, h)) (among_from (suc n) count numbers) (among_below (suc n) count numbers))
+
+-- cells by number are cells
+pub numbers_within : (cells names : List Ref) → All (λ k. k < length cells) (numbers cells names)
+numbers_within cells names = all_mono (λ k. k < zero + length cells) (λ k. k < length cells) (λ k h. omega (arith, h)) (numbers cells names) (numbers_below zero cells names)
+
+pub reading_there : (files : ℕ) (cells locals names : List Ref) → Always (length cells) files (of_reading (reading cells locals names))
+reading_there files cells locals names n =
+    All-map (IsThere (counts (length cells) files n)) OfCell (reading cells locals names).cells
+    (numbers_within cells _)
+
+pub looked_there : (files count : ℕ) (lets : List LetName) (list : List Frag) → Always count files (of_reading (looked_at count lets list))
+looked_there files count lets list n =
+    All-map (IsThere (counts count files n)) OfCell (looked_at count lets list).cells
+    (all_mono (λ k. k < zero + count) (λ k. k < count) (λ k h. omega (arith, h)) (looked_at count lets list).cells (among_below zero count _))
