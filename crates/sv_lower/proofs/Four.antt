@@ -1,5 +1,6 @@
 -- The code of a `for`.
 use Rattle.std.proofs.Common.{◌≡◌, List, Option, None, Some, option_map, refl, ap, sym, ◌∙◌}
+use Rattle.std.specs.Prelude.{Result, Ok, Err, IfOk, OnOk}
 use Rattle.sv_ast.specs.declared.script_tree.Expr.{Expr}
 use Rattle.sv_ast.specs.declared.script_tree.Stmt.{Stmt}
 use Rattle.sv_ast.specs.declared.script_tree.StmtKind
@@ -16,7 +17,7 @@ use Rattle.sv_code.specs.declared.functions.CodeStmtKind.{CodeStmtKind}
 use Rattle.sv_code.specs.declared.functions.CodeStmtKind.TheVariants as stmt_code
 use Rattle.sv_code.specs.declared.functions.Function.{Function}
 use Rattle.sv_code.specs.declared.functions.FunctionBody.{FunctionBody}
-use Rattle.sv_lower.specs.Does.{Does, of_four, given}
+use Rattle.sv_lower.specs.Does.{Does, of_one, of_four, given}
 use Rattle.sv_lower.specs.Lower.{of_expr, of_stmt, of_stmt_kind, body, entry, expr_kind, field, stmt_kind, arm, decl, expr, link, stmt}
 
 -- four parts, each behind what the one before it left
@@ -42,17 +43,28 @@ for_is (Some f) None (Some n) turn = fold-roll-StmtKind (Does FunctionBody) (Doe
 for_is (Some f) (Some e) None turn = fold-roll-StmtKind (Does FunctionBody) (Does CodeItem) (Does CodeKind) (Does CodeField) (Does CodeStmtKind) (Does CodeArm) (Does CodeDecl) (Does Code) (Does CodeLink) (Does CodeStmt) body entry expr_kind field stmt_kind arm decl expr link stmt (StmtKind-F.For (Some f) (Some e) None turn)
 for_is (Some f) (Some e) (Some n) turn = fold-roll-StmtKind (Does FunctionBody) (Does CodeItem) (Does CodeKind) (Does CodeField) (Does CodeStmtKind) (Does CodeArm) (Does CodeDecl) (Does Code) (Does CodeLink) (Does CodeStmt) body entry expr_kind field stmt_kind arm decl expr link stmt (StmtKind-F.For (Some f) (Some e) (Some n) turn)
 
-pub for_code : (kind : AnyStmt) (first : Option Stmt) (test next : Option Expr) (turn : Stmt) (f0 f1 f2 f3 : List Function) (a : Option CodeStmt) (b c : Option Code) (d : CodeStmt) → kind ≡ StmtKind.For first test next turn
-    → a ≡ (given (option_map of_stmt first) f0).0 → f1 ≡ (given (option_map of_stmt first) f0).1 → b ≡ (given (option_map of_expr test) f1).0 → f2 ≡ (given (option_map of_expr test) f1).1
-    → c ≡ (given (option_map of_expr next) f2).0 → f3 ≡ (given (option_map of_expr next) f2).1 → d ≡ (of_stmt turn f3).0
-    → stmt_code.For a b c d ≡ (of_stmt_kind kind f0).0
-for_code kind first test next turn f0 f1 f2 f3 a b c d k a1 f1e b1 f2e c1 f3e d1 =
-    four_code stmt_code.For (given (option_map of_stmt first)) (given (option_map of_expr test)) (given (option_map of_expr next)) (of_stmt turn) f0 f1 f2 f3 a b c d a1 f1e b1 f2e c1 f3e d1
-    ∙ sym (ap (λ x. (of_stmt_kind x f0).0) k ∙ ap (λ x. (x f0).0) (for_is first test next turn))
+ok_weaker : {A E : Type 0} (r : Result A E) {P Q : A → Type 0} → ((x : A) → P x → Q x) → IfOk r P → IfOk r Q
+ok_weaker (Ok x) f p = f x p
+ok_weaker (Err e) f p = tt
 
-pub for_after : (kind : AnyStmt) (first : Option Stmt) (test next : Option Expr) (turn : Stmt) (f0 f1 f2 f3 f4 : List Function) → kind ≡ StmtKind.For first test next turn
-    → f1 ≡ (given (option_map of_stmt first) f0).1 → f2 ≡ (given (option_map of_expr test) f1).1 → f3 ≡ (given (option_map of_expr next) f2).1 → f4 ≡ (of_stmt turn f3).1
-    → f4 ≡ (of_stmt_kind kind f0).1
-for_after kind first test next turn f0 f1 f2 f3 f4 k f1e f2e f3e f4e =
+on_ok_weaker : {A E P Q : Type 0} (r : Result A E) → (P → Q) → OnOk r P → OnOk r Q
+on_ok_weaker (Ok x) f p = f p
+on_ok_weaker (Err e) f p = tt
+
+-- the last of the four parts is made together with the whole
+pub for_code : {E : Type 0} (kind : AnyStmt) (first : Option Stmt) (test next : Option Expr) (turn : Stmt) (f0 f1 f2 f3 : List Function) (a : Option CodeStmt) (b c : Option Code) (r : Result CodeStmtKind E)
+    → kind ≡ StmtKind.For first test next turn
+    → a ≡ (given (option_map of_stmt first) f0).0 → f1 ≡ (given (option_map of_stmt first) f0).1 → b ≡ (given (option_map of_expr test) f1).0 → f2 ≡ (given (option_map of_expr test) f1).1
+    → c ≡ (given (option_map of_expr next) f2).0 → f3 ≡ (given (option_map of_expr next) f2).1
+    → IfOk r (λ code. code ≡ (of_one (stmt_code.For a b c) (of_stmt turn) f3).0) → IfOk r (λ code. code ≡ (of_stmt_kind kind f0).0)
+for_code kind first test next turn f0 f1 f2 f3 a b c r k a1 f1e b1 f2e c1 f3e = ok_weaker r (λ code is. is
+    ∙ four_code stmt_code.For (given (option_map of_stmt first)) (given (option_map of_expr test)) (given (option_map of_expr next)) (of_stmt turn) f0 f1 f2 f3 a b c (of_stmt turn f3).0 a1 f1e b1 f2e c1 f3e refl
+    ∙ sym (ap (λ x. (of_stmt_kind x f0).0) k ∙ ap (λ x. (x f0).0) (for_is first test next turn)))
+
+pub for_after : {E : Type 0} (kind : AnyStmt) (first : Option Stmt) (test next : Option Expr) (turn : Stmt) (f0 f1 f2 f3 f4 : List Function) (r : Result CodeStmtKind E)
+    → kind ≡ StmtKind.For first test next turn
+    → f1 ≡ (given (option_map of_stmt first) f0).1 → f2 ≡ (given (option_map of_expr test) f1).1 → f3 ≡ (given (option_map of_expr next) f2).1
+    → OnOk r (f4 ≡ (of_stmt turn f3).1) → OnOk r (f4 ≡ (of_stmt_kind kind f0).1)
+for_after kind first test next turn f0 f1 f2 f3 f4 r k f1e f2e f3e = on_ok_weaker r (λ f4e.
     four_after stmt_code.For (given (option_map of_stmt first)) (given (option_map of_expr test)) (given (option_map of_expr next)) (of_stmt turn) f0 f1 f2 f3 f4 f1e f2e f3e f4e
-    ∙ sym (ap (λ x. (of_stmt_kind x f0).1) k ∙ ap (λ x. (x f0).1) (for_is first test next turn))
+    ∙ sym (ap (λ x. (of_stmt_kind x f0).1) k ∙ ap (λ x. (x f0).1) (for_is first test next turn)))

@@ -1,6 +1,7 @@
 // Statements, and functions that they declare.
 ghost use Rattle.std.specs.Prelude.{◌≡◌, map, option_map, IfOk, OnOk};
 ghost use Rattle.sv_code.specs.declared.functions.FunctionBody.TheVariants as body_code;
+ghost use Rattle.sv_code.specs.declared.functions.CodeStmtKind.TheVariants as stmt_code;
 ghost use Rattle.sv_lower.specs.Does.{each, given, of_one};
 ghost use Rattle.sv_lower.specs.Lower as spec;
 
@@ -10,7 +11,7 @@ use std::alloc::Global;
 use sv_ast::{Arm, Decl, Named, Stmt, StmtKind};
 use sv_base::NoMemory;
 use sv_code::{
-    CodeArm, CodeArms, CodeDecl, CodeDecls, CodeStmt, CodeStmtKind, CodeStmts, Function,
+    Code, CodeArm, CodeArms, CodeDecl, CodeDecls, CodeStmt, CodeStmtKind, CodeStmts, Function,
     FunctionBody, Functions,
 };
 use sv_list::Boxed;
@@ -73,13 +74,11 @@ fn lower_stmt_kind(
         }),
         StmtKind::If { arms, last } => {
             let arms = lower_arms(alloc, functions, arms.as_slice())?;
-            let last = lower_optional(alloc, functions, last)?;
-            Ok(CodeStmtKind::If { arms, last })
+            lower_else(alloc, functions, last, arms)
         }
         StmtKind::While { test, body } => {
             let test = lower_expr(alloc, functions, test)?;
-            let body = lower_turn(alloc, functions, body)?;
-            Ok(CodeStmtKind::While { test, body })
+            lower_while(alloc, functions, body, test)
         }
         StmtKind::For {
             first,
@@ -90,13 +89,7 @@ fn lower_stmt_kind(
             let first = lower_optional(alloc, functions, first)?;
             let test = lower_given(alloc, functions, test)?;
             let next = lower_given(alloc, functions, next)?;
-            let body = lower_turn(alloc, functions, body)?;
-            Ok(CodeStmtKind::For {
-                first,
-                test,
-                next,
-                body,
-            })
+            lower_for(alloc, functions, body, first, test, next)
         }
         StmtKind::Each {
             name,
@@ -105,13 +98,7 @@ fn lower_stmt_kind(
             body,
         } => {
             let list = lower_expr(alloc, functions, list)?;
-            let body = lower_turn(alloc, functions, body)?;
-            Ok(CodeStmtKind::Each {
-                name: *name,
-                fixed: *fixed,
-                list,
-                body,
-            })
+            lower_each(alloc, functions, body, *name, *fixed, list)
         }
         StmtKind::Break => Ok(CodeStmtKind::Break),
         StmtKind::Continue => Ok(CodeStmtKind::Continue),
@@ -138,6 +125,80 @@ fn lower_stmt_kind(
             })
         }
     }
+}
+
+// An `if` with these branches, and its last `else`.
+#[cycle(lower)]
+fn lower_else(
+    alloc: Global,
+    functions: &mut Functions,
+    last: &Option<Boxed<Stmt>>,
+    arms: CodeArms,
+) -> Result<CodeStmtKind, NoMemory>
+    ensures code { IfOk result (λ code. code ≡ (of_one (stmt_code.If arms) (given (option_map spec.of_stmt last.now)) functions.old).0) }
+    ensures functions { OnOk result (functions.new ≡ (given (option_map spec.of_stmt last.now) functions.old).1) }
+{
+    let last = lower_optional(alloc, functions, last)?;
+    Ok(CodeStmtKind::If { arms, last })
+}
+
+// A `while` with this condition.
+#[cycle(lower)]
+fn lower_while(
+    alloc: Global,
+    functions: &mut Functions,
+    body: &Boxed<Stmt>,
+    test: Code,
+) -> Result<CodeStmtKind, NoMemory>
+    ensures code { IfOk result (λ code. code ≡ (of_one (stmt_code.While test) (spec.of_stmt body.now) functions.old).0) }
+    ensures functions { OnOk result (functions.new ≡ (spec.of_stmt body.now functions.old).1) }
+{
+    let body = lower_turn(alloc, functions, body)?;
+    Ok(CodeStmtKind::While { test, body })
+}
+
+// A `for` with this head.
+#[cycle(lower)]
+fn lower_for(
+    alloc: Global,
+    functions: &mut Functions,
+    body: &Boxed<Stmt>,
+    first: Option<Boxed<CodeStmt>>,
+    test: Option<Code>,
+    next: Option<Code>,
+) -> Result<CodeStmtKind, NoMemory>
+    ensures code { IfOk result (λ code. code ≡ (of_one (stmt_code.For first test next) (spec.of_stmt body.now) functions.old).0) }
+    ensures functions { OnOk result (functions.new ≡ (spec.of_stmt body.now functions.old).1) }
+{
+    let body = lower_turn(alloc, functions, body)?;
+    Ok(CodeStmtKind::For {
+        first,
+        test,
+        next,
+        body,
+    })
+}
+
+// A `for` over the items of this list.
+#[cycle(lower)]
+fn lower_each(
+    alloc: Global,
+    functions: &mut Functions,
+    body: &Boxed<Stmt>,
+    name: Named,
+    fixed: bool,
+    list: Code,
+) -> Result<CodeStmtKind, NoMemory>
+    ensures code { IfOk result (λ code. code ≡ (of_one (stmt_code.Each name fixed list) (spec.of_stmt body.now) functions.old).0) }
+    ensures functions { OnOk result (functions.new ≡ (spec.of_stmt body.now functions.old).1) }
+{
+    let body = lower_turn(alloc, functions, body)?;
+    Ok(CodeStmtKind::Each {
+        name,
+        fixed,
+        list,
+        body,
+    })
 }
 
 // The body of a loop, or what stands behind `$:`.
