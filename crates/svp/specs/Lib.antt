@@ -1,13 +1,1 @@
-pub mod Words
-pub mod Form
-pub mod Page
-pub mod EventsFile
-pub mod Kinds
-pub mod Answer
-pub mod Run
-pub mod Counter
-pub mod Fields
-pub mod Job
-pub mod Load
-pub mod Stage
 pub mod Status

@@ -1,7 +1,7 @@
 -- The exit status of the program.
 use Rattle.std.specs.Prelude.{ℕ}
-use Rattle.svp.specs.declared.status.Status.{Status}
-use Rattle.svp.specs.declared.status.Status.TheVariants.{Ok, Usage, Source, Events, Turn, ReadFault, WriteFault, NoMemory, Missing}
+use Rattle.sv_run.specs.declared.status.Status.{Status}
+use Rattle.sv_run.specs.declared.status.Status.TheVariants.{Ok, Usage, Source, Events, Turn, ReadFault, WriteFault, NoMemory, Missing}
 
 -- 0 to 8, in the order of the statuses
 abbrev pub code_of : Status → ℕ

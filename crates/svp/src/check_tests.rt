@@ -1,12 +1,11 @@
 // What `check` answers: each kind of mistake in a smallest program that has it and in the nearest one that hasn't, and programs of several
 // files.
-use crate::status::Status;
-use crate::top::run;
 use std::alloc::{AllocError, Global};
 use std::process::Abort;
 use std::test::Fail;
 use sv_base::FILE_LIMIT;
 use sv_io::{MemShelf, MemSink};
+use sv_run::{Status, run};
 
 type Files = Vec<(String, Vec<u8>)>;
 

@@ -1,9 +1,8 @@
 // What `print` answers, over files in memory.
-use crate::status::Status;
-use crate::top::run;
 use std::alloc::Global;
 use std::test::Fail;
 use sv_io::{MemShelf, MemSink};
+use sv_run::{Status, run};
 
 // Files by name and text, what is printed of them, and how it ends.
 struct Case {

@@ -1,9 +1,8 @@
 // The worked runs of the counter, over files and output in memory.
-use crate::status::Status;
-use crate::top::run;
 use std::alloc::{AllocError, Global};
 use std::test::Fail;
 use sv_io::{MemShelf, MemSink};
+use sv_run::{Status, run};
 
 const COUNTER: &str =
     "<script>\n  let count = 0;\n</script>\n<button id=\"b\" on:click={() => count += 1}>Clicked {count}</button>\n";

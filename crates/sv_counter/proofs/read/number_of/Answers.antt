@@ -1,0 +1,12 @@
+use Rattle.std.proofs.Common.{arith, ap, ◌∙◌}
+use Rattle.std.specs.Result.{result_ok}
+use Rattle.std.proofs.lemmas.Fmt.{IsAscii-decimal, parse-decimal}
+use Rattle.std.proofs.lemmas.Str.{IsUtf8-from_ascii}
+use Rattle.sv_counter.proofs.read.number_of.Goals as goal
+
+pub returns-in-Ok : goal.returns-in-Ok
+returns-in-Ok c = λ n small is.
+    c.ok.ensures.value ∙ ap result_ok (parse-decimal 32 n _ _ small (omega arith) (c.in-Ok.ensures.cases.0 ∙ is) c.parse.ensures.value.0)
+
+pub returns-in-Err : goal.returns-in-Err
+returns-in-Err c = λ n small is. absurd (c.in-Err.ensures.cases.0 (rw is (IsUtf8-from_ascii _ (IsAscii-decimal n (omega arith)))))

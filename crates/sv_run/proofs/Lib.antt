@@ -1,0 +1,4 @@
+pub mod Deciding
+pub mod Lists
+pub mod OneAnswer
+pub mod Running

@@ -1,0 +1,41 @@
+-- How a run ends, by the answer that its words and files call for.
+use Rattle.std.proofs.Common.{◌≡◌, ℕ, List, Option, refl, sym, ◌∙◌, ap, subst, inl}
+use Rattle.sv_io.specs.Files.{Files}
+use Rattle.sv_io.specs.Sink.{with_bytes, AppendsFront}
+use Rattle.sv_run.specs.Answer.{Answer, usage, missing, source, source_at, events, turns, accepted, listed, IsAnswer, status_of, text_of}
+use Rattle.sv_run.specs.Run.{Answers, BreaksOff, RunAnswers, RunCompletes, IsOneAnswer}
+use Rattle.sv_run.specs.declared.status.Status.{Status}
+
+answer_given : (words : List (List ℕ)) (files : Files) (old new : Option (List ℕ)) (answer : Answer) → IsAnswer words files answer
+    → new ≡ with_bytes old (text_of answer) → Answers words files old new (status_of answer)
+answer_given words files old new answer is written = record { answer = answer; called_for = is; given = record { status_is = refl; written = written } }
+
+answered : (words : List (List ℕ)) (files : Files) (old new : Option (List ℕ)) (answer : Answer) → IsAnswer words files answer
+    → new ≡ with_bytes old (text_of answer) → RunAnswers words files old new (status_of answer)
+answered words files old new usage is written = answer_given words files old new usage is written
+answered words files old new (missing name) is written = answer_given words files old new (missing name) is written
+answered words files old new (source file word) is written = answer_given words files old new (source file word) is written
+answered words files old new (source_at file line column word) is written = answer_given words files old new (source_at file line column word) is written
+answered words files old new (events fault) is written = answer_given words files old new (events fault) is written
+answered words files old new (turns form ids) is written = answer_given words files old new (turns form ids) is written
+answered words files old new accepted is written = answer_given words files old new accepted is written
+answered words files old new (listed text) is written = answer_given words files old new (listed text) is written
+
+-- the answer was given
+pub run-answered : (words : List (List ℕ)) (files : Files) (old new : Option (List ℕ)) (status : Status) (answer : Answer) → IsAnswer words files answer
+    → status ≡ status_of answer → new ≡ with_bytes old (text_of answer) → RunAnswers words files old new status
+run-answered words files old new status answer is same written =
+    let P : Status → Type 0 = RunAnswers words files old new in
+    subst P (sym same) (answered words files old new answer is written)
+
+-- the answer that was given is each one that is called for
+pub run-given : IsOneAnswer → (words : List (List ℕ)) (files : Files) (old new : Option (List ℕ)) (status : Status) (given : Answer) → IsAnswer words files given
+    → status ≡ status_of given → new ≡ with_bytes old (text_of given) → RunCompletes words files old new status
+run-given law words files old new status given called_for status_is written = λ answer is.
+    let same = law words files given answer called_for is in
+    inl (record { status_is = status_is ∙ ap status_of same; written = written ∙ ap (λ a. with_bytes old (text_of a)) same })
+
+-- the output of the answer broke off
+pub run-broken : (words : List (List ℕ)) (files : Files) (old new : Option (List ℕ)) (answer : Answer) → IsAnswer words files answer
+    → AppendsFront old new (text_of answer) → BreaksOff words files old new
+run-broken words files old new answer is front = record { answer = answer; called_for = is; front = front }

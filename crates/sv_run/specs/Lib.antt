@@ -1,0 +1,6 @@
+pub mod Words
+pub mod Kinds
+pub mod Answer
+pub mod Run
+pub mod Job
+pub mod Load

@@ -1,0 +1,112 @@
+// What a run is to do.
+ghost use Rattle.std.specs.Prelude.{◌≡◌, IfOk, string_bytes};
+ghost use Rattle.sv_run.specs.Answer.{status_of, text_of, fault_text};
+ghost use Rattle.sv_run.specs.Job.{refusal_of, fault_of};
+
+use crate::status::Status;
+use std::alloc::Global;
+use std::fmt;
+use sv_base::NoMemory;
+use sv_counter::Counter;
+
+/// Why a file is refused.
+#[derive(Clone, Copy, Debug, PartialEq, Eq)]
+pub enum FileFault {
+    /// It has more bytes than its limit.
+    TooLong,
+    /// It isn't of the one form that can be run yet.
+    NotBuilt,
+}
+
+/// Why no turn is run.
+#[derive(Drop)]
+pub enum Refusal {
+    /// The words are no form.
+    Usage,
+    /// The file of this name isn't there.
+    Missing(String),
+    /// The file of this name is refused as a whole, by a word.
+    Source(String, &'static str),
+    /// The file of this name is refused at a place, by a word.
+    SourceAt {
+        file: String,
+        line: usize,
+        column: usize,
+        word: &'static str,
+    },
+    /// The events file is refused.
+    Events(FileFault),
+}
+
+/// What a run is to do.
+#[derive(Drop)]
+pub enum Job {
+    /// Print one line.
+    Refuse(Refusal),
+    /// Print the pages of the counter under clicks on these ids.
+    Play(Counter, Vec<String>),
+    /// Say that the program is accepted.
+    Accept,
+    /// Print this listing of the program.
+    List(String),
+}
+
+const USAGE: &str =
+    "usage: svp run ROOT EVENTS [--log] [--watch] [--serials] [--tally] | check ROOT | print ROOT | gen N\n";
+
+impl FileFault {
+    /// The word for it.
+    pub fn word(self) -> &'static str
+        ensures { result.now ≡ fault_text (fault_of self) }
+    {
+        match self {
+            FileFault::TooLong => "TooLong",
+            FileFault::NotBuilt => "NotBuilt",
+        }
+    }
+}
+
+impl fmt::Display for FileFault {
+    ghost use Rattle.std.specs.Prelude.{Some};
+    ghost use Rattle.sv_run.specs.Answer.{fault_text};
+    ghost use Rattle.sv_run.specs.Job.{fault_of};
+
+    ghost output = { λ fault. Some (fault_text (fault_of fault)) };
+
+    fn fmt<W: fmt::Write>(&self, f: &mut fmt::Formatter<W>) -> fmt::Result {
+        f.write_str(self.word())
+    }
+}
+
+impl Refusal {
+    /// The status with which the run ends.
+    pub fn status(&self) -> Status
+        ensures { result ≡ status_of (refusal_of self.now) }
+    {
+        match self {
+            Refusal::Usage => Status::Usage,
+            Refusal::Missing(_) => Status::Missing,
+            Refusal::Source(..) | Refusal::SourceAt { .. } => Status::Source,
+            Refusal::Events(_) => Status::Events,
+        }
+    }
+
+    /// The line that is printed.
+    #[tactic(auto, unfolding(crate::specs::Answer::usage_line))]
+    pub fn line(&self, alloc: Global) -> Result<String, NoMemory>
+        ensures { IfOk result (λ line. string_bytes line ≡ text_of (refusal_of self.now)) }
+    {
+        match self {
+            Refusal::Usage => Ok(String::from_str(alloc, USAGE)?),
+            Refusal::Missing(name) => Ok(format!(in alloc; "missing: {name}\n")?),
+            Refusal::Source(file, word) => Ok(format!(in alloc; "source: {file}: {word}\n")?),
+            Refusal::SourceAt {
+                file,
+                line,
+                column,
+                word,
+            } => Ok(format!(in alloc; "source: {file}:{line}:{column}: {word}\n")?),
+            Refusal::Events(fault) => Ok(format!(in alloc; "events: {fault}\n")?),
+        }
+    }
+}

@@ -1,0 +1,24 @@
+// How a run ended.
+
+/// How a run ended.
+#[derive(Clone, Copy, Debug, PartialEq, Eq)]
+pub enum Status {
+    /// Everything was printed.
+    Ok,
+    /// The words are no form; the usage line was printed.
+    Usage,
+    /// A file of the program was refused.
+    Source,
+    /// The events file was refused.
+    Events,
+    /// A turn was refused.
+    Turn,
+    /// A file could not be read. Nothing was printed.
+    ReadFault,
+    /// The output could not be written. A front of it was printed.
+    WriteFault,
+    /// Memory was wanted. Nothing or a front of the output was printed.
+    NoMemory,
+    /// A file isn't there.
+    Missing,
+}

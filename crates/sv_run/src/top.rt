@@ -1,0 +1,129 @@
+// The top call: it decides what the words and the files ask for, and prints it.
+ghost use Rattle.std.specs.Prelude.{◌≡◌, ◌≢◌, ◌≤◌, IfOk, OnOk, OnErr, IfSome};
+ghost use Rattle.sv_counter.specs.Texts.{bytes_of};
+ghost use Rattle.sv_io.specs.Faults.{Rose};
+ghost use Rattle.sv_io.specs.Sink.{with_bytes, AppendsFront};
+ghost use Rattle.sv_run.specs.Answer.{IsAnswer, IsPlayed, status_of, text_of};
+ghost use Rattle.sv_run.specs.Job.{answer_of, IsPlayable};
+ghost use Rattle.sv_run.specs.Run.{RunAnswers, RunCompletes};
+
+use crate::check::{decide_check, decide_print};
+use crate::job::{Job, Refusal};
+use crate::laws::one_answer;
+use crate::load::{Loaded, load_counter, load_events};
+use crate::status::Status;
+use crate::words::{Command, command_of};
+use std::alloc::Global;
+use sv_counter::play;
+use sv_io::{Shelf, ShelfError, Sink, SinkError, write_all};
+
+// What the words and the files ask for.
+fn decide<F: Shelf>(alloc: Global, words: &[String], shelf: &mut F) -> Result<Job, ShelfError>
+    ensures answer { IfOk result (λ job. IfSome (F.files shelf.old) (λ files. IsAnswer (bytes_of words.now) files (answer_of job))) }
+    ensures playable { IfOk result IsPlayable }
+    ensures later { F.faults shelf.old ≤ F.faults shelf.new }
+    ensures failed { result ≡ Err ShelfError.Failed → Rose (F.faults shelf.old) (F.faults shelf.new) }
+{
+    match command_of(words) {
+        Some(Command::Run { root, events }) => decide_run(alloc, root, events, shelf),
+        Some(Command::Check { root }) => decide_check(alloc, root, shelf),
+        Some(Command::Print { root }) => decide_print(alloc, root, shelf),
+        None => Ok(Job::Refuse(Refusal::Usage)),
+    }
+}
+
+// What `run ROOT EVENTS` asks for.
+fn decide_run<F: Shelf>(
+    alloc: Global,
+    root: &str,
+    file: &str,
+    shelf: &mut F,
+) -> Result<Job, ShelfError>
+    ensures answer { IfOk result (λ job. IfSome (F.files shelf.old) (λ files. IsPlayed files root.now file.now (answer_of job))) }
+    ensures playable { IfOk result IsPlayable }
+    ensures later { F.faults shelf.old ≤ F.faults shelf.new }
+    ensures failed { result ≡ Err ShelfError.Failed → Rose (F.faults shelf.old) (F.faults shelf.new) }
+{
+    let counter = match load_counter(alloc, root, shelf)? {
+        Loaded::Read(counter) => counter,
+        Loaded::Missing => {
+            let name = String::from_str(alloc, root)?;
+            return Ok(Job::Refuse(Refusal::Missing(name)));
+        }
+        Loaded::Refused(fault) => {
+            let name = String::from_str(alloc, root)?;
+            return Ok(Job::Refuse(Refusal::Source(name, fault.word())));
+        }
+    };
+    match load_events(alloc, file, shelf)? {
+        Loaded::Read(ids) => Ok(Job::Play(counter, ids)),
+        Loaded::Missing => {
+            let name = String::from_str(alloc, file)?;
+            Ok(Job::Refuse(Refusal::Missing(name)))
+        }
+        Loaded::Refused(fault) => Ok(Job::Refuse(Refusal::Events(fault))),
+    }
+}
+
+// Prints the answer of the job.
+fn answer<K: Sink>(alloc: Global, job: &Job, out: &mut K) -> Result<Status, SinkError>
+    requires { IsPlayable job.now }
+    ensures status { IfOk result (λ status. status ≡ status_of (answer_of job.now)) }
+    ensures all { OnOk result (K.written out.new ≡ with_bytes (K.written out.old) (text_of (answer_of job.now))) }
+    ensures front { OnErr result (AppendsFront (K.written out.old) (K.written out.new) (text_of (answer_of job.now))) }
+    ensures later { K.faults out.old ≤ K.faults out.new }
+    ensures failed { result ≡ Err SinkError.Failed → Rose (K.faults out.old) (K.faults out.new) }
+{
+    match job {
+        Job::Refuse(refusal) => {
+            let line = refusal.line(alloc)?;
+            write_all(out, line.as_bytes())?;
+            Ok(refusal.status())
+        }
+        Job::Play(counter, ids) => {
+            play(alloc, counter, ids, out)?;
+            Ok(Status::Ok)
+        }
+        Job::Accept => {
+            write_all(out, b"accepted\n")?;
+            Ok(Status::Ok)
+        }
+        Job::List(text) => {
+            write_all(out, text.as_bytes())?;
+            Ok(Status::Ok)
+        }
+    }
+}
+
+/// Reads the files that the words name, prints what they ask for, and answers how it ended.
+pub fn run<F: Shelf, K: Sink>(alloc: Global, words: &[String], shelf: &mut F, out: &mut K) -> Status
+    // Where the files are told: what was written is the output of an answer with this status that the words and the files
+    // call for, nothing after a failed read, and nothing or a front of such an output where a write failed or memory is wanted.
+    ensures answers { IfSome (F.files shelf.old) (λ files.
+        RunAnswers (bytes_of words.now) files (K.written out.old) (K.written out.new) result) }
+
+    // Where no count of faults rose, each answer that they call for is given, unless memory is wanted.
+    ensures completes { IfSome (F.files shelf.old) (λ files.
+        (Rose (F.faults shelf.old) (F.faults shelf.new) → ⊥) → (Rose (K.faults out.old) (K.faults out.new) → ⊥)
+        → RunCompletes (bytes_of words.now) files (K.written out.old) (K.written out.new) result) }
+
+    // A fault is answered only where a count rose in this call, and counts never fall. No turn of a counter is refused.
+    ensures read_fault { result ≡ Status.ReadFault → Rose (F.faults shelf.old) (F.faults shelf.new) }
+    ensures read_nothing { result ≡ Status.ReadFault → K.written out.new ≡ K.written out.old }
+    ensures write_fault { result ≡ Status.WriteFault → Rose (K.faults out.old) (K.faults out.new) }
+    ensures shelf_later { F.faults shelf.old ≤ F.faults shelf.new }
+    ensures sink_later { K.faults out.old ≤ K.faults out.new }
+    ensures no_turn { result ≢ Status.Turn }
+{
+    one_answer();
+    let job = match decide(alloc, words, shelf) {
+        Ok(job) => job,
+        Err(ShelfError::Failed) => return Status::ReadFault,
+        Err(ShelfError::NoMemory) => return Status::NoMemory,
+    };
+    match answer(alloc, &job, out) {
+        Ok(status) => status,
+        Err(SinkError::Failed) => Status::WriteFault,
+        Err(SinkError::NoMemory) => Status::NoMemory,
+    }
+}

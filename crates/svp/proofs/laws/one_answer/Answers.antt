@@ -1,5 +1,0 @@
-use Rattle.svp.proofs.OneAnswer.{IsAnswer-unique}
-use Rattle.svp.proofs.laws.one_answer.Goals as goal
-
-pub returns : goal.returns
-returns c = IsAnswer-unique (record { outcomes = c.one_outcome.ensures; mistakes = c.one_mistake.ensures; cleans = c.mistake_or_clean.ensures; programs = c.one_program.ensures })
