@@ -27,6 +27,7 @@ use Rattle.sv_slots.specs.Children.{file_of}
 use Rattle.sv_white.specs.declared.pieces.Piece.{Piece}
 use Rattle.sv_white.specs.declared.pieces.Piece.TheVariants.{Words, Apart, Other}
 use Rattle.sv_white.specs.White.{kept}
+use Rattle.sv_frags.specs.declared.markup.Head.{Head}
 use Rattle.sv_frags.specs.declared.markup.Row.{Row}
 use Rattle.sv_frags.specs.Makes.{Makes, all, optional, within, part, part_of, list_names}
 use Rattle.sv_frags.specs.Attributes.{attrs, lets, slot_name}
@@ -97,6 +98,11 @@ if_block arms last around locals = of_two frag.If (all arms around locals) (opti
 -- the names of a row, each once
 abbrev pub row_refs : Named → Option Named → List Ref
 row_refs item index = firsts (row_names item index)
+
+-- the head of an each block, whose rows have these names: its list and its key
+unfoldable pub head : List Ref → Expr → Option Expr → Makes Head
+head names list key around locals =
+    of_two (λ l k. record { list = l; key = k }) (part_of (list_names names list key) list around locals) (within names (optional (option_map part key)) around locals)
 
 -- a list with its rows
 unfoldable pub row : Expr → Named → Option Named → Option Expr → List Node → Makes Row

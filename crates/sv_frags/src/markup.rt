@@ -1,5 +1,7 @@
 // The walk through markup.
-ghost use Rattle.std.specs.Prelude.{◌≡◌, ◌≤◌, [], length, map, All, IfOk, OnOk};
+ghost use Rattle.std.specs.Prelude.{◌≡◌, ◌≤◌, [], Some, length, map, option_map, true, All, IfOk, OnOk};
+ghost use Rattle.sv_code.specs.declared.fragments.Frag.TheVariants as frag;
+ghost use Rattle.sv_lower.specs.Does.{of_one};
 ghost use Rattle.sv_reads.specs.Around.{names_of};
 ghost use Rattle.sv_frags.specs.Around.{seen};
 ghost use Rattle.sv_frags.specs.Frags as spec;
@@ -18,6 +20,13 @@ use sv_names::Distinct;
 use sv_reads::LocalScope;
 use sv_scopes::row_names;
 use sv_white::Piece;
+
+// The head of an each block: its list and its key.
+#[derive(Drop)]
+struct Head {
+    list: Part,
+    key: Option<Part>,
+}
 
 // The list of an each block with its rows.
 #[derive(Drop)]
@@ -218,18 +227,10 @@ fn make_node(
         }
         Markup::If { arms, last, .. } => {
             let arms = make_arms(alloc, functions, around, locals, arms.as_slice())?;
-            let last = match last {
-                Some(last) => Some(make_nodes(
-                    alloc,
-                    functions,
-                    around,
-                    locals,
-                    last.as_slice(),
-                    true,
-                )?),
-                None => None,
-            };
-            Ok(Frag::If { arms, last })
+            match last {
+                Some(last) => { make_else(alloc, functions, around, locals, last.as_slice(), arms) }
+                None => Ok(Frag::If { arms, last: None }),
+            }
         }
         Markup::Each {
             list,
@@ -251,31 +252,65 @@ fn make_node(
                 index,
                 key,
             )?;
-            let none = match none {
-                Some(none) => Some(make_nodes(
-                    alloc,
-                    functions,
-                    around,
-                    locals,
-                    none.as_slice(),
-                    true,
-                )?),
-                None => None,
-            };
-            Ok(Frag::Each {
-                list: row.list,
-                item: row.item,
-                index: row.index,
-                key: row.key,
-                body: row.body,
-                none,
-            })
+            match none {
+                Some(none) => { make_none(alloc, functions, around, locals, none.as_slice(), row) }
+                None => Ok(each_of(row, None)),
+            }
         }
         Markup::Key { value, body, .. } => {
             let value = part(alloc, functions, around, locals, value)?;
             let body = make_nodes(alloc, functions, around, locals, body.as_slice(), true)?;
             Ok(Frag::Key { value, body })
         }
+    }
+}
+
+// An if block with these branches, and what its last `{:else}` holds.
+#[cycle(walk)]
+fn make_else(
+    alloc: Global,
+    functions: &mut Functions,
+    around: &Around<'_>,
+    locals: &LocalScope<'_>,
+    last: &[Markup],
+    arms: FragArms,
+) -> Result<Frag, NoMemory>
+    requires { length around.now.cells.now ≤ 256 }
+    ensures fragment { IfOk result (λ fragment. fragment ≡ (of_one (λ made. frag.If arms (Some made)) (spec.nodes true (map spec.node last.now) (seen around.now) (names_of locals.now)) functions.old).0) }
+    ensures functions { OnOk result (functions.new ≡ (spec.nodes true (map spec.node last.now) (seen around.now) (names_of locals.now) functions.old).1) }
+{
+    let last = Some(make_nodes(alloc, functions, around, locals, last, true)?);
+    Ok(Frag::If { arms, last })
+}
+
+// An each block with this row, and what shows for an empty list.
+#[cycle(walk)]
+fn make_none(
+    alloc: Global,
+    functions: &mut Functions,
+    around: &Around<'_>,
+    locals: &LocalScope<'_>,
+    none: &[Markup],
+    row: Row,
+) -> Result<Frag, NoMemory>
+    requires { length around.now.cells.now ≤ 256 }
+    ensures fragment { IfOk result (λ fragment. fragment ≡ (of_one (λ made. spec.with_none row (Some made)) (spec.nodes true (map spec.node none.now) (seen around.now) (names_of locals.now)) functions.old).0) }
+    ensures functions { OnOk result (functions.new ≡ (spec.nodes true (map spec.node none.now) (seen around.now) (names_of locals.now) functions.old).1) }
+{
+    let none = make_nodes(alloc, functions, around, locals, none, true)?;
+    Ok(each_of(row, Some(none)))
+}
+
+fn each_of(row: Row, none: Option<Frags>) -> Frag
+    ensures { result ≡ spec.with_none row none }
+{
+    Frag::Each {
+        list: row.list,
+        item: row.item,
+        index: row.index,
+        key: row.key,
+        body: row.body,
+        none,
     }
 }
 
@@ -315,9 +350,31 @@ fn make_arm(
     Ok(FragArm { test, body })
 }
 
+// The head of an each block, whose rows have these names.
+#[tactic(auto, unfolding(crate::specs::Frags::head))]
+fn make_head(
+    alloc: Global,
+    functions: &mut Functions,
+    around: &Around<'_>,
+    locals: &LocalScope<'_>,
+    names: &Distinct,
+    list: &Expr,
+    key: Option<&Expr>,
+) -> Result<Head, NoMemory>
+    requires { length around.now.cells.now ≤ 256 }
+    ensures head { IfOk result (λ head. head ≡ (spec.head names.now list.now (option_map (λ x. x.now) key.entry) (seen around.now) (names_of locals.now) functions.old).0) }
+    ensures functions { OnOk result (functions.new ≡ (spec.head names.now list.now (option_map (λ x. x.now) key.entry) (seen around.now) (names_of locals.now) functions.old).1) }
+{
+    let looks = list_names(alloc, names, list, key)?;
+    let list = part_of(alloc, functions, around, locals, looks.as_slice(), list)?;
+    let inside = LocalScope::inside(&*locals, names);
+    let key = optional_part(alloc, functions, around, &inside, key)?;
+    Ok(Head { list, key })
+}
+
 // The list of an each block with its rows.
 #[cycle(walk)]
-#[tactic(auto, unfolding(crate::specs::Frags::row))]
+#[tactic(auto, unfolding(crate::specs::Frags::row, crate::specs::Frags::head))]
 fn make_row(
     alloc: Global,
     functions: &mut Functions,
@@ -334,16 +391,14 @@ fn make_row(
     ensures functions { OnOk result (functions.new ≡ (spec.row list.now item.now index.now key.now (map spec.node body.now) (seen around.now) (names_of locals.now) functions.old).1) }
 {
     let names = row_names(alloc, item, index)?;
-    let looks = list_names(alloc, &names, list, key.as_ref())?;
-    let list = part_of(alloc, functions, around, locals, looks.as_slice(), list)?;
+    let head = make_head(alloc, functions, around, locals, &names, list, key.as_ref())?;
     let inside = LocalScope::inside(&*locals, &names);
-    let key = optional_part(alloc, functions, around, &inside, key.as_ref())?;
     let body = make_nodes(alloc, functions, around, &inside, body, true)?;
     Ok(Row {
-        list,
+        list: head.list,
         item: item.name,
         index: index.map(|index| index.name),
-        key,
+        key: head.key,
         body,
     })
 }
