@@ -1,7 +1,8 @@
 // Each statement, each refusal, and the limits.
+use crate::cases::{answered, push_word, refused, text_of};
 use std::alloc::{AllocError, Global};
 use std::test::Fail;
-use sv_ast::{Body, ExprKind, Kind, ParseError, Script, Stmt, StmtKind};
+use sv_ast::{Arm, Body, Expr, ExprKind, Kind, ParseError, Script, Stmt, StmtKind};
 use sv_base::Names;
 use sv_script::{parse_expr, parse_expr_in, parse_module_script, parse_script};
 
@@ -26,34 +27,43 @@ fn name(of: &Stmt) -> &'static str {
     }
 }
 
-fn push_all(stmts: &[Stmt], names: &mut Vec<&'static str>) -> Result<(), AllocError> {
+fn push_name(of: &Stmt, names: &mut String) -> Result<(), AllocError> {
+    push_word(names, name(of))
+}
+
+fn push_all(stmts: &[Stmt], names: &mut String) -> Result<(), AllocError> {
     for stmt in stmts {
-        names.push(name(stmt))?;
+        push_name(stmt, names)?;
     }
     Ok(())
 }
 
-// Puts the names of a statement's parts in.
-fn push_parts(of: &Stmt, names: &mut Vec<&'static str>) -> Result<(), AllocError> {
-    match &of.kind {
-        StmtKind::Block(stmts) => push_all(stmts.as_slice(), names)?,
-        StmtKind::Func { body, .. } => push_all(body.as_slice(), names)?,
-        StmtKind::If { arms, last } => {
-            for arm in arms.as_slice() {
-                names.push(name(&arm.body))?;
-            }
-            if let Some(last) = last {
-                names.push(name(last.get()))?;
-            }
-        }
-        StmtKind::While { body, .. } => names.push(name(body.get()))?,
-        StmtKind::For { body, .. } => names.push(name(body.get()))?,
-        StmtKind::Each { body, .. } => names.push(name(body.get()))?,
-        StmtKind::React(inner) => names.push(name(inner.get()))?,
-        StmtKind::Return(Some(_)) => names.push("value")?,
-        _ => (),
+fn push_arms(arms: &[Arm], names: &mut String) -> Result<(), AllocError> {
+    for arm in arms {
+        push_name(&arm.body, names)?;
     }
     Ok(())
+}
+
+// Appends the names of a statement's parts.
+fn push_parts(of: &Stmt, names: &mut String) -> Result<(), AllocError> {
+    match &of.kind {
+        StmtKind::Block(stmts) => push_all(stmts.as_slice(), names),
+        StmtKind::Func { body, .. } => push_all(body.as_slice(), names),
+        StmtKind::If { arms, last } => {
+            push_arms(arms.as_slice(), names)?;
+            match last {
+                Some(last) => push_name(last.get(), names),
+                None => Ok(()),
+            }
+        }
+        StmtKind::While { body, .. } => push_name(body.get(), names),
+        StmtKind::For { body, .. } => push_name(body.get(), names),
+        StmtKind::Each { body, .. } => push_name(body.get(), names),
+        StmtKind::React(inner) => push_name(inner.get(), names),
+        StmtKind::Return(Some(_)) => push_word(names, "value"),
+        _ => Ok(()),
+    }
 }
 
 // What a text is read as: a component's script, or a module.
@@ -75,217 +85,201 @@ fn read(alloc: Global, text: &str, form: As) -> Result<Result<Script, ParseError
     })
 }
 
-// A text, and the names of its statements, each with those of its parts.
-const SCRIPTS: [(&str, &[&str]); 47] = [
-    ("", &[]),
-    (";", &["Empty"]),
-    ("a;", &["Eval"]),
-    ("a\n;", &["Eval"]),
-    ("a\n++b", &["Eval", "Eval"]),
-    ("a\n(b)", &["Eval"]),
-    ("++n\n(f)()", &["Eval", "Eval"]),
-    ("() => {}\n(a)", &["Eval", "Eval"]),
-    ("let a", &["Let"]),
-    ("let a = 1, b\nb", &["Let", "Eval"]),
-    ("const a = 1, b = 2", &["Const"]),
-    ("{}", &["Block"]),
-    ("{ a }", &["Block", "Eval"]),
-    ("{ let a; b }", &["Block", "Let", "Eval"]),
-    ("if (a) b", &["If", "Eval"]),
-    ("if (a) b\nelse c", &["If", "Eval", "Eval"]),
-    ("if (a) b; else$x = 1", &["If", "Eval", "Eval"]),
-    (
-        "if (a) { } else if (b) { } else { }",
-        &["If", "Block", "Block", "Block"],
-    ),
-    ("if (a) if (b) c; else d", &["If", "If"]),
-    (
-        "if (a) {} else if (b) ; else ;",
-        &["If", "Block", "Empty", "Empty"],
-    ),
-    ("while (a) b", &["While", "Eval"]),
-    ("while (a) break", &["While", "Break"]),
-    ("while (a) { if (b) continue }", &["While", "Block"]),
-    ("for (;;) continue", &["For", "Continue"]),
-    (
-        "for (let i = 0, n = 2; i < n; i++) { i }",
-        &["For", "Block"],
-    ),
-    ("for (a = 1; ; ) {}", &["For", "Block"]),
-    ("for (const x of l) x", &["Each", "Eval"]),
-    ("for (let x of l) {}", &["Each", "Block"]),
-    ("for (let of of of) of", &["Each", "Eval"]),
-    ("for (let of;;) of", &["For", "Eval"]),
-    ("function f(a, b,) { return a }", &["Func", "Return"]),
-    ("function f() { return }", &["Func", "Return"]),
-    ("function f() { return\n1 }", &["Func", "Return", "Eval"]),
-    (
-        "function f() { while (a) return }\nf()",
-        &["Func", "While", "Eval"],
-    ),
-    ("import A from './A-1_b.svelte'", &["Import"]),
-    (
-        "import { a, b as c, } from 'svelte'\na",
-        &["Import", "Eval"],
-    ),
-    ("import {} from './x.js';", &["Import"]),
-    ("import { as as as } from 'svelte/store'", &["Import"]),
-    ("import from from './x.svelte'", &["Import"]),
-    ("export let a, b = 1", &["Export"]),
-    ("$: a = b", &["React", "Eval"]),
-    ("$: { a }", &["React", "Block"]),
-    ("$: if (a) b", &["React", "If"]),
-    ("$: ;", &["React", "Empty"]),
-    ("a => { return a }", &["Eval"]),
-    ("a // b\nc", &["Eval", "Eval"]),
-    ("a /*\n*/ c", &["Eval", "Eval"]),
-];
-
-// The same for modules.
-const MODULES: [(&str, &[&str]); 4] = [
-    ("", &[]),
-    ("export const a = 1", &["Const given"]),
-    ("export function f() { ; }", &["Func given", "Empty"]),
-    (
-        "const a = 1\nfunction f() {}\nimport { b } from 'svelte'",
-        &["Const", "Func", "Import"],
-    ),
-];
-
-fn names_of(script: &Script, names: &mut Vec<&'static str>) -> Result<(), AllocError> {
+// The names of a script's statements, each with those of its parts.
+fn names_of(alloc: Global, script: &Script) -> Result<String, AllocError> {
+    let mut names = String::new(alloc);
     for stmt in script.stmts.as_slice() {
-        names.push(name(stmt))?;
-        push_parts(stmt, names)?;
+        push_name(stmt, &mut names)?;
+        push_parts(stmt, &mut names)?;
     }
-    Ok(())
+    Ok(names)
 }
+
+// What is read of a text, or why it is no script.
+fn answer(alloc: Global, text: &str, form: As) -> Result<String, Fail> {
+    match read(alloc, text, form)? {
+        Ok(script) => Ok(names_of(alloc, &script)?),
+        Err(error) => refused(alloc, error),
+    }
+}
+
+// The line of a case, as its text is read.
+fn found(alloc: Global, line: &str, form: As) -> Result<String, Fail> {
+    let text = text_of(alloc, line)?;
+    let answer = answer(alloc, text.as_str(), form)?;
+    Ok(answered(alloc, line, answer.as_str())?)
+}
+
+// A text, and the names of its statements, each with those of its parts.
+const SCRIPTS: &str = r" ->
+; -> Empty
+a; -> Eval
+a\n; -> Eval
+a\n++b -> Eval Eval
+a\n(b) -> Eval
+++n\n(f)() -> Eval Eval
+() => {}\n(a) -> Eval Eval
+let a -> Let
+let a = 1, b\nb -> Let Eval
+const a = 1, b = 2 -> Const
+{} -> Block
+{ a } -> Block Eval
+{ let a; b } -> Block Let Eval
+if (a) b -> If Eval
+if (a) b\nelse c -> If Eval Eval
+if (a) b; else$x = 1 -> If Eval Eval
+if (a) { } else if (b) { } else { } -> If Block Block Block
+if (a) if (b) c; else d -> If If
+if (a) {} else if (b) ; else ; -> If Block Empty Empty
+while (a) b -> While Eval
+while (a) break -> While Break
+while (a) { if (b) continue } -> While Block
+for (;;) continue -> For Continue
+for (let i = 0, n = 2; i < n; i++) { i } -> For Block
+for (a = 1; ; ) {} -> For Block
+for (const x of l) x -> Each Eval
+for (let x of l) {} -> Each Block
+for (let of of of) of -> Each Eval
+for (let of;;) of -> For Eval
+function f(a, b,) { return a } -> Func Return
+function f() { return } -> Func Return
+function f() { return\n1 } -> Func Return Eval
+function f() { while (a) return }\nf() -> Func While Eval
+import A from './A-1_b.svelte' -> Import
+import { a, b as c, } from 'svelte'\na -> Import Eval
+import {} from './x.js'; -> Import
+import { as as as } from 'svelte/store' -> Import
+import from from './x.svelte' -> Import
+export let a, b = 1 -> Export
+$: a = b -> React Eval
+$: { a } -> React Block
+$: if (a) b -> React If
+$: ; -> React Empty
+a => { return a } -> Eval
+a // b\nc -> Eval Eval
+a /*\n*/ c -> Eval Eval";
 
 #[test]
 fn each_statement_is_read(rt: HostRuntime) -> Result<(), Fail> {
-    for (text, parts) in SCRIPTS {
-        let script = read(rt.alloc(), text, As::Script)??;
-        let mut names = Vec::new(rt.alloc());
-        names_of(&script, &mut names)?;
-        assert_eq!(rt; names.as_slice(), parts, "{text}");
+    for line in SCRIPTS.split('\n') {
+        assert_eq!(rt; found(rt.alloc(), line, As::Script)?.as_str(), line);
     }
     Ok(())
 }
 
+// The same for modules, and why a text is none, and where.
+const MODULES: &str = r" ->
+export const a = 1 -> Const given
+export function f() { ; } -> Func given Empty
+const a = 1\nfunction f() {}\nimport { b } from 'svelte' -> Const Func Import
+let a -> Syntax @0
+export let a -> Syntax @7
+a -> Syntax @0
+$: a -> Syntax @0
+; -> Syntax @0
+export import { a } from 'svelte' -> Syntax @7";
+
 #[test]
-fn each_item_of_a_module_is_read(rt: HostRuntime) -> Result<(), Fail> {
-    for (text, parts) in MODULES {
-        let script = read(rt.alloc(), text, As::Module)??;
-        let mut names = Vec::new(rt.alloc());
-        names_of(&script, &mut names)?;
-        assert_eq!(rt; names.as_slice(), parts, "{text}");
+fn a_module_has_items_of_its_own(rt: HostRuntime) -> Result<(), Fail> {
+    for line in MODULES.split('\n') {
+        assert_eq!(rt; found(rt.alloc(), line, As::Module)?.as_str(), line);
+    }
+    Ok(())
+}
+
+// A text, why it is no script, and where.
+const REFUSALS: &str = r"a b -> Syntax @2
+a ?? b || c -> Syntax @7
+1 / 2 -> Syntax @0
+a\rb -> Syntax @2
+if (a) b else c -> Syntax @9
+if (a) let b -> Syntax @7
+if (a) ; else let b -> Syntax @14
+while (a) const b = 1 -> Syntax @10
+$: let a -> Syntax @3
+$ : a -> Syntax @0
+let -> Syntax @3
+let 1 -> Syntax @4
+let a, -> Syntax @6
+const a -> Syntax @7
+break -> Syntax @0
+continue -> Syntax @0
+return -> Syntax @0
+while (a) { b => { break } } -> Syntax @19
+function f() { break } -> Syntax @15
+{ function f() {} } -> Syntax @2
+{ export let a } -> Syntax @2
+{ -> Syntax @1
+} -> Syntax @0
+else a -> Syntax @0
+function () {} -> Syntax @9
+function f {} -> Syntax @11
+function f() 1 -> Syntax @13
+if a -> Syntax @3
+if (1 / 2) a -> Syntax @4
+for (const x in l) x -> Syntax @13
+for (const a = 1;;) a -> Syntax @13
+for (a of b) c -> Syntax @7
+for (a; b) c -> Syntax @9
+import A from 'A.svelte' -> Syntax @14
+import A from './A.js' -> Syntax @14
+import A from a -> Syntax @14
+import { a } from './x.svelte' -> Syntax @18
+import { a } from './a/b.js' -> Syntax @18
+import { a } from './.js' -> Syntax @18
+import { a } from 'svelte/motion' -> Syntax @18
+import * as a from 'svelte' -> Syntax @7
+import a 'svelte' -> Syntax @9
+export const a = 1 -> Syntax @7
+export function f() {} -> Syntax @7
+export a -> Syntax @7
+export let a b -> Syntax @13";
+
+#[test]
+fn what_is_no_script_is_refused_at_its_place(rt: HostRuntime) -> Result<(), Fail> {
+    for line in REFUSALS.split('\n') {
+        assert_eq!(rt; found(rt.alloc(), line, As::Script)?.as_str(), line);
     }
     Ok(())
 }
 
 // A text, and where its last statement begins and ends.
-const SPANS: [(&str, u32, u32); 9] = [
-    ("a ;", 0, 3),
-    ("a\n;", 0, 3),
-    ("a ", 0, 1),
-    (" let a = 1 // x\nb ", 16, 17),
-    (" let a = 1 // x\n", 1, 10),
-    ("export let a", 0, 12),
-    ("if (a) b\nelse c", 0, 15),
-    ("$: a;", 0, 5),
-    ("function f() { } ", 0, 16),
-];
+const SPANS: &str = r"a ; -> 0..3
+a\n; -> 0..3
+a  -> 0..1
+ let a = 1 // x\nb  -> 16..17
+ let a = 1 // x\n -> 1..10
+export let a -> 0..12
+if (a) b\nelse c -> 0..15
+$: a; -> 0..5
+function f() { }  -> 0..16";
+
+// Where the last statement of a script begins and ends.
+fn last_place(alloc: Global, stmts: &[Stmt]) -> Result<String, AllocError> {
+    let (from, to) = match stmts.last() {
+        Some(stmt) => (stmt.span.from, stmt.span.to),
+        None => (0, 0),
+    };
+    format!(in alloc; " {from}..{to}")
+}
+
+// The place of the last statement of a text.
+fn place(alloc: Global, text: &str) -> Result<String, Fail> {
+    let script = read(alloc, text, As::Script)??;
+    Ok(last_place(alloc, script.stmts.as_slice())?)
+}
+
+// The line of a case, with the place of the last statement of its text.
+fn placed(alloc: Global, line: &str) -> Result<String, Fail> {
+    let text = text_of(alloc, line)?;
+    let place = place(alloc, text.as_str())?;
+    Ok(answered(alloc, line, place.as_str())?)
+}
 
 #[test]
 fn spans_are_exact(rt: HostRuntime) -> Result<(), Fail> {
-    for (text, from, to) in SPANS {
-        let script = read(rt.alloc(), text, As::Script)??;
-        let mut at = (0, 0);
-        for stmt in script.stmts.as_slice() {
-            at = (stmt.span.from, stmt.span.to);
-        }
-        assert_eq!(rt; at, (from, to), "{text}");
-    }
-    Ok(())
-}
-
-// A text that is no script, and where it is refused as `Syntax`.
-const REFUSALS: [(&str, u32); 46] = [
-    ("a b", 2),
-    ("a ?? b || c", 7),
-    ("1 / 2", 0),
-    ("a\rb", 2),
-    ("if (a) b else c", 9),
-    ("if (a) let b", 7),
-    ("if (a) ; else let b", 14),
-    ("while (a) const b = 1", 10),
-    ("$: let a", 3),
-    ("$ : a", 0),
-    ("let", 3),
-    ("let 1", 4),
-    ("let a,", 6),
-    ("const a", 7),
-    ("break", 0),
-    ("continue", 0),
-    ("return", 0),
-    ("while (a) { b => { break } }", 19),
-    ("function f() { break }", 15),
-    ("{ function f() {} }", 2),
-    ("{ export let a }", 2),
-    ("{", 1),
-    ("}", 0),
-    ("else a", 0),
-    ("function () {}", 9),
-    ("function f {}", 11),
-    ("function f() 1", 13),
-    ("if a", 3),
-    ("if (1 / 2) a", 4),
-    ("for (const x in l) x", 13),
-    ("for (const a = 1;;) a", 13),
-    ("for (a of b) c", 7),
-    ("for (a; b) c", 9),
-    ("import A from 'A.svelte'", 14),
-    ("import A from './A.js'", 14),
-    ("import A from a", 14),
-    ("import { a } from './x.svelte'", 18),
-    ("import { a } from './a/b.js'", 18),
-    ("import { a } from './.js'", 18),
-    ("import { a } from 'svelte/motion'", 18),
-    ("import * as a from 'svelte'", 7),
-    ("import a 'svelte'", 9),
-    ("export const a = 1", 7),
-    ("export function f() {}", 7),
-    ("export a", 7),
-    ("export let a b", 13),
-];
-
-// The same for modules.
-const MODULE_REFUSALS: [(&str, u32); 6] = [
-    ("let a", 0),
-    ("export let a", 7),
-    ("a", 0),
-    ("$: a", 0),
-    (";", 0),
-    ("export import { a } from 'svelte'", 7),
-];
-
-// Why a text is refused, and where.
-fn refusal(alloc: Global, text: &str, form: As) -> Result<Option<(Kind, u32)>, Fail> {
-    match read(alloc, text, form)? {
-        Ok(_) => Ok(None),
-        Err(ParseError::Refused(refused)) => Ok(Some((refused.kind, refused.at.from))),
-        Err(ParseError::NoMemory) => Err("no memory".into()),
-    }
-}
-
-#[test]
-fn what_is_no_script_is_refused_at_its_place(rt: HostRuntime) -> Result<(), Fail> {
-    for (text, from) in REFUSALS {
-        let at = Some((Kind::Syntax, from));
-        assert_eq!(rt; refusal(rt.alloc(), text, As::Script)?, at, "{text}");
-    }
-    for (text, from) in MODULE_REFUSALS {
-        let at = Some((Kind::Syntax, from));
-        assert_eq!(rt; refusal(rt.alloc(), text, As::Module)?, at, "{text}");
+    for line in SPANS.split('\n') {
+        assert_eq!(rt; placed(rt.alloc(), line)?.as_str(), line);
     }
     Ok(())
 }
@@ -294,22 +288,34 @@ fn what_is_no_script_is_refused_at_its_place(rt: HostRuntime) -> Result<(), Fail
 fn repeated(
     alloc: Global,
     front: &str,
-    times: u32,
+    times: usize,
     before: &str,
     after: &str,
-) -> Result<String, Fail> {
+) -> Result<String, AllocError> {
     let mut text = String::from_str(alloc, front)?;
-    for _ in 0..times {
-        text.push_str(before)?;
-    }
-    for _ in 0..times {
-        text.push_str(after)?;
-    }
+    text.push_str(before.repeat(alloc, times)?.as_str())?;
+    text.push_str(after.repeat(alloc, times)?.as_str())?;
     Ok(text)
 }
 
+// Why a text that repeats its ends is no script, and where.
+fn refusal(
+    alloc: Global,
+    front: &str,
+    times: usize,
+    before: &str,
+    after: &str,
+) -> Result<Option<(Kind, u32)>, Fail> {
+    let text = repeated(alloc, front, times, before, after)?;
+    match read(alloc, text.as_str(), As::Script)? {
+        Ok(_) => Ok(None),
+        Err(ParseError::Refused(refused)) => Ok(Some((refused.kind, refused.at.from))),
+        Err(ParseError::NoMemory) => Err("no memory".into()),
+    }
+}
+
 // A front, how often a text is repeated behind it within the limit, its ends, and where the next is refused.
-const LIMITS: [(&str, u32, &str, &str, u32); 7] = [
+const LIMITS: [(&str, usize, &str, &str, u32); 7] = [
     ("", 32, "{", "}", 32),
     ("", 16, "if(a){", "}", 99),
     ("", 16, "while(a){", "}", 150),
@@ -321,65 +327,112 @@ const LIMITS: [(&str, u32, &str, &str, u32); 7] = [
 
 #[test]
 fn limits_are_kept(rt: HostRuntime) -> Result<(), Fail> {
-    for (front, times, before, after, from) in LIMITS {
-        let text = repeated(rt.alloc(), front, times, before, after)?;
-        assert_eq!(rt;
-            refusal(rt.alloc(), text.as_str(), As::Script)?,
-            None,
-            "{text}"
-        );
-        let text = repeated(rt.alloc(), front, times + 1, before, after)?;
-        let at = Some((Kind::TooDeep, from));
-        assert_eq!(rt;
-            refusal(rt.alloc(), text.as_str(), As::Script)?,
-            at,
-            "{text}"
-        );
+    for (front, times, before, after, from) in &LIMITS {
+        let within = refusal(rt.alloc(), front, *times, before, after)?;
+        assert_eq!(rt; within, None, "{before}");
+        let beyond = refusal(rt.alloc(), front, times.saturating_add(1), before, after)?;
+        assert_eq!(rt; beyond, Some((Kind::TooDeep, *from)), "{before}");
     }
     Ok(())
 }
 
-#[test]
-fn an_expression_is_read_as_far_as_it_goes(rt: HostRuntime) -> Result<(), Fail> {
-    let mut names = Names::empty(rt.alloc());
-    let (_, at) = parse_expr(rt.alloc(), &mut names, 0, b"Math.floor(1 / 2)", 0)?;
-    assert_eq!(rt; at, 17);
-    let (_, at) = parse_expr(rt.alloc(), &mut names, 0, b"<p>{x + 1}", 4)?;
-    assert_eq!(rt; at, 9);
-    let (tree, at) = parse_expr(rt.alloc(), &mut names, 0, b"() => { return\n1 }", 0)?;
-    assert_eq!(rt; at, 18);
-    let mut kinds = Vec::new(rt.alloc());
+fn arrow_names(alloc: Global, tree: &Expr) -> Result<String, AllocError> {
+    let mut names = String::new(alloc);
     if let ExprKind::Arrow {
         body: Body::Block(stmts),
         ..
     } = &tree.kind
     {
-        push_all(stmts.as_slice(), &mut kinds)?;
+        push_all(stmts.as_slice(), &mut names)?;
     }
-    assert_eq!(rt; kinds.as_slice(), ["Return", "Eval"].as_slice());
+    Ok(names)
+}
+
+// The names of the statements of an arrow, and the place behind an expression.
+fn expr_names(alloc: Global, tree: &Expr, at: u32) -> Result<String, Fail> {
+    let names = arrow_names(alloc, tree)?;
+    Ok(format!(in alloc; "{} @{at}", names.as_str())?)
+}
+
+// What is told of an expression that was read, or why it is refused.
+fn told(alloc: Global, read: Result<(Expr, u32), ParseError>) -> Result<String, Fail> {
+    match read {
+        Ok((tree, at)) => expr_names(alloc, &tree, at),
+        Err(error) => refused(alloc, error),
+    }
+}
+
+// What is read at a place of a text, or why there is no expression.
+fn expr_at(alloc: Global, text: &[u8], from: u32) -> Result<String, Fail> {
+    if text.len() >= 100_000 || from as usize > text.len() {
+        return Err("too long".into());
+    }
+    let mut names = Names::empty(alloc);
+    told(alloc, parse_expr(alloc, &mut names, 0, text, from))
+}
+
+#[test]
+fn an_expression_is_read_as_far_as_it_goes(rt: HostRuntime) -> Result<(), Fail> {
+    assert_eq!(rt;
+        expr_at(rt.alloc(), b"Math.floor(1 / 2)", 0)?.as_str(),
+        " @17"
+    );
+    assert_eq!(rt; expr_at(rt.alloc(), b"<p>{x + 1}", 4)?.as_str(), " @9");
     Ok(())
 }
 
 #[test]
-fn open_constructs_count(rt: HostRuntime) -> Result<(), Fail> {
-    let mut names = Names::empty(rt.alloc());
-    let (_, at) = parse_expr_in(rt.alloc(), &mut names, 0, b"(1)", 0, 31)?;
-    assert_eq!(rt; at, 3);
-    let kind = match parse_expr_in(rt.alloc(), &mut names, 0, b"(1)", 0, 32) {
-        Err(ParseError::Refused(refused)) => Some(refused.kind),
-        _ => None,
-    };
-    assert_eq!(rt; kind, Some(Kind::TooDeep));
+fn a_return_in_an_arrow_ends_at_its_line(rt: HostRuntime) -> Result<(), Fail> {
+    let arrow = expr_at(rt.alloc(), b"() => { return\n1 }", 0)?;
+    assert_eq!(rt; arrow.as_str(), " Return Eval @18");
     Ok(())
+}
+
+fn end_of(read: Result<(Expr, u32), ParseError>) -> Result<u32, ParseError> {
+    match read {
+        Ok((_, at)) => Ok(at),
+        Err(error) => Err(error),
+    }
+}
+
+// How far `(1)` is read where so many constructs are open.
+fn end_within(alloc: Global, constructs: u32) -> Result<Result<u32, ParseError>, Fail> {
+    if constructs > 32 {
+        return Err("too many".into());
+    }
+    let mut names = Names::empty(alloc);
+    let read = parse_expr_in(alloc, &mut names, 0, b"(1)", 0, constructs);
+    Ok(end_of(read))
+}
+
+fn is_too_deep(end: Result<u32, ParseError>) -> bool {
+    match end {
+        Err(ParseError::Refused(refused)) => refused.kind == Kind::TooDeep,
+        _ => false,
+    }
+}
+
+#[test]
+fn open_constructs_count(rt: HostRuntime) -> Result<(), Fail> {
+    assert_eq!(rt; end_within(rt.alloc(), 31)?, Ok(3));
+    assert!(rt; is_too_deep(end_within(rt.alloc(), 32)?));
+    Ok(())
+}
+
+// Whether a text is a script. Its names are then added.
+fn is_script(alloc: Global, names: &mut Names, text: &[u8]) -> bool {
+    if text.len() >= 100_000 {
+        return false;
+    }
+    parse_script(alloc, names, 0, text, 0, text.len() as u32).is_ok()
 }
 
 #[test]
 fn a_refusal_leaves_the_names(rt: HostRuntime) -> Result<(), Fail> {
     let mut names = Names::empty(rt.alloc());
-    let _script = parse_script(rt.alloc(), &mut names, 0, b"let a, b", 0, 8)?;
-    assert_eq!(rt; names.len(), 2);
-    let is_refused = parse_script(rt.alloc(), &mut names, 0, b"c d", 0, 3).is_err();
-    assert_eq!(rt; is_refused, true);
-    assert_eq!(rt; names.len(), 2);
+    let is_read = is_script(rt.alloc(), &mut names, b"let a, b");
+    assert_eq!(rt; (is_read, names.len()), (true, 2));
+    let is_read = is_script(rt.alloc(), &mut names, b"c d");
+    assert_eq!(rt; (is_read, names.len()), (false, 2));
     Ok(())
 }
