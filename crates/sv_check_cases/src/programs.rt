@@ -6,9 +6,6 @@ use sv_base::{Names, Span, Text};
 use sv_markup::parse_component;
 use sv_script::{parse_module_script, parse_script};
 
-/// Files by name and text.
-pub(crate) type Sources = &'static [(&'static str, &'static str)];
-
 /// A component with the names in it.
 pub(crate) fn component(alloc: Global, text: &str) -> Result<(Names, Component), Fail> {
     let mut names = Names::empty(alloc);
@@ -30,9 +27,10 @@ fn script(alloc: Global, names: &mut Names, file: u16, text: &str) -> Result<Com
     if bytes.len() >= 100_000 {
         return Err("too long".into());
     }
+    let script = parse_script(alloc, names, file, bytes, 0, bytes.len() as u32)?;
     Ok(Component {
         file,
-        script: parse_script(alloc, names, file, bytes, 0, bytes.len() as u32)?,
+        script,
         nodes: Nodes::new(alloc),
     })
 }
@@ -70,19 +68,43 @@ fn tree(
     }))
 }
 
-fn bundle(alloc: Global, sources: &[(&str, &str)], form: As) -> Result<Bundle, Fail> {
-    let mut names = Names::empty(alloc);
-    let mut files = Files::new(alloc);
+fn source_file(
+    alloc: Global,
+    names: &mut Names,
+    file: u16,
+    source: (&str, &str),
+    form: As,
+) -> Result<SourceFile, Fail> {
+    let name = Text::new(alloc, source.0)?;
+    let tree = tree(alloc, names, file, source, form)?;
+    Ok(SourceFile {
+        name,
+        lines: LineStarts::new(alloc),
+        tree,
+    })
+}
+
+// Appends each file, with the names in it.
+fn push_files(
+    alloc: Global,
+    names: &mut Names,
+    files: &mut Files,
+    sources: &[(&str, &str)],
+    form: As,
+) -> Result<(), Fail> {
     for (file, source) in sources.iter().enumerate() {
         if file > 63 {
             return Err("too many".into());
         }
-        files.push(SourceFile {
-            name: Text::new(alloc, source.0)?,
-            lines: LineStarts::new(alloc),
-            tree: tree(alloc, &mut names, file as u16, *source, form)?,
-        })?;
+        files.push(source_file(alloc, names, file as u16, *source, form)?)?;
     }
+    Ok(())
+}
+
+fn bundle(alloc: Global, sources: &[(&str, &str)], form: As) -> Result<Bundle, Fail> {
+    let mut names = Names::empty(alloc);
+    let mut files = Files::new(alloc);
+    push_files(alloc, &mut names, &mut files, sources, form)?;
     Ok(Bundle { names, files })
 }
 
@@ -94,6 +116,15 @@ pub(crate) fn scripts(alloc: Global, sources: &[(&str, &str)]) -> Result<Bundle,
 /// A program of whole components.
 pub(crate) fn components(alloc: Global, sources: &[(&str, &str)]) -> Result<Bundle, Fail> {
     bundle(alloc, sources, As::Whole)
+}
+
+/// The files of a program that is written in one line, each as its name, `: ` and its text, with ` | ` between.
+pub(crate) fn sources_of(alloc: Global, text: &str) -> Result<Vec<(&str, &str)>, AllocError> {
+    let mut sources = Vec::new(alloc);
+    for file in text.split(" | ") {
+        sources.push(file.split_once(": ").unwrap_or(("?", file)))?;
+    }
+    Ok(sources)
 }
 
 /// Appends what stands at some places of a text, with `;` behind each.
