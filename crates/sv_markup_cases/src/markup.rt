@@ -1,8 +1,10 @@
 // Each form of markup, and the trees of whole files.
-use crate::sources::{COMPONENTS, MODULES, TOPS};
+use crate::cases::{answered, push_word, text_of};
+use crate::sources::{COMPONENTS, MODULES};
 use std::alloc::{AllocError, Global};
+use std::process::Abort;
 use std::test::Fail;
-use sv_ast::{Component, Markup, Nodes, ParseError, StmtKind};
+use sv_ast::{Branch, Component, Markup, Nodes, ParseError, Stmt, StmtKind};
 use sv_base::{Name, Names, Span};
 use sv_markup::{parse_component, parse_module};
 
@@ -28,33 +30,46 @@ fn name(of: &Markup) -> &'static str {
     }
 }
 
-fn push_all(nodes: &Nodes, names: &mut Vec<&'static str>) -> Result<(), AllocError> {
+fn push_all(nodes: &Nodes, names: &mut String) -> Result<(), AllocError> {
     for node in nodes.as_slice() {
-        names.push(name(node))?;
+        push_word(names, name(node))?;
     }
     Ok(())
 }
 
-fn push_last(nodes: &Option<Nodes>, names: &mut Vec<&'static str>) -> Result<(), AllocError> {
-    if let Some(nodes) = nodes {
-        names.push("else")?;
-        push_all(nodes, names)?;
+fn push_last(nodes: &Option<Nodes>, names: &mut String) -> Result<(), AllocError> {
+    let Some(nodes) = nodes else {
+        return Ok(());
+    };
+    push_word(names, "else")?;
+    push_all(nodes, names)
+}
+
+fn push_arms(arms: &[Branch], names: &mut String) -> Result<(), AllocError> {
+    for arm in arms {
+        push_word(names, "arm")?;
+        push_all(&arm.body, names)?;
     }
     Ok(())
 }
 
-// Puts the names of a node's parts in.
-fn push_parts(of: &Markup, names: &mut Vec<&'static str>) -> Result<(), AllocError> {
+// Appends a word for what is there.
+fn push_if(is_there: bool, word: &str, names: &mut String) -> Result<(), AllocError> {
+    if !is_there {
+        return Ok(());
+    }
+    push_word(names, word)
+}
+
+// Appends the names of a node's parts.
+fn push_parts(of: &Markup, names: &mut String) -> Result<(), AllocError> {
     match of {
         Markup::Element { children, .. } => push_all(children, names),
         Markup::Comp { children, .. } => push_all(children, names),
         Markup::Slot { children, .. } => push_all(children, names),
         Markup::Key { body, .. } => push_all(body, names),
         Markup::If { arms, last, .. } => {
-            for arm in arms.as_slice() {
-                names.push("arm")?;
-                push_all(&arm.body, names)?;
-            }
+            push_arms(arms.as_slice(), names)?;
             push_last(last, names)
         }
         Markup::Each {
@@ -64,12 +79,8 @@ fn push_parts(of: &Markup, names: &mut Vec<&'static str>) -> Result<(), AllocErr
             none,
             ..
         } => {
-            if index.is_some() {
-                names.push("index")?;
-            }
-            if key.is_some() {
-                names.push("key")?;
-            }
+            push_if(index.is_some(), "index", names)?;
+            push_if(key.is_some(), "key", names)?;
             push_all(body, names)?;
             push_last(none, names)
         }
@@ -77,161 +88,181 @@ fn push_parts(of: &Markup, names: &mut Vec<&'static str>) -> Result<(), AllocErr
     }
 }
 
+// The names of nodes, each with those of its parts.
+fn names_of(alloc: Global, nodes: &Nodes) -> Result<String, AllocError> {
+    let mut names = String::new(alloc);
+    for node in nodes.as_slice() {
+        push_word(&mut names, name(node))?;
+        push_parts(node, &mut names)?;
+    }
+    Ok(names)
+}
+
+// What is read of a text.
+fn answer(alloc: Global, text: &str) -> Result<String, Fail> {
+    let tree = read(alloc, text.as_bytes())??;
+    Ok(names_of(alloc, &tree.nodes)?)
+}
+
+// The line of a case, as its text is read.
+fn found(alloc: Global, line: &str) -> Result<String, Fail> {
+    let text = text_of(alloc, line)?;
+    let answer = answer(alloc, text.as_str())?;
+    Ok(answered(alloc, line, answer.as_str())?)
+}
+
 // A text, and the names of its nodes, each with those of its parts.
-const TREES: [(&str, &[&str]); 51] = [
-    ("", &[]),
-    (" a\n", &["Text"]),
-    ("a & b &amp; &x", &["Text"]),
-    ("{a}", &["Show"]),
-    ("{ a }b", &["Show", "Text"]),
-    ("{/* c */ a}", &["Show"]),
-    ("{/*}*/a}", &["Show"]),
-    ("{{a}}", &["Show"]),
-    ("{a}/* b */{c}", &["Show", "Text", "Show"]),
-    ("<!-- <p> -->", &[]),
-    ("a<!---->b", &["Text", "Text"]),
-    ("<p></p>", &["Element"]),
-    ("<p>a</p\n>", &["Element", "Text"]),
-    ("<p >a</p >", &["Element", "Text"]),
-    ("<p/>a", &["Element", "Text"]),
-    ("<p\n/>", &["Element"]),
-    (
-        "<p id=\"a\" class='b{c}' d=e hidden {f}>{g}</p>",
-        &["Element", "Show"],
-    ),
-    ("<my-tag2></my-tag2>", &["Element"]),
-    ("<xH></xH>", &["Element"]),
-    ("<textareas></textareas>", &["Element"]),
-    ("<svelte></svelte>", &["Element"]),
-    ("<slots></slots>", &["Element"]),
-    ("<p><!-- a --><b></b></p>", &["Element", "Element"]),
-    ("<br>a", &["Element", "Text"]),
-    ("<br/>", &["Element"]),
-    ("<A/>", &["Comp"]),
-    ("<A b={c} d bind:e let:f on:g>h</A>", &["Comp", "Text"]),
-    ("<Größe></Größe >", &["Comp"]),
-    ("<A1></A1>", &["Comp"]),
-    ("<Br>a</Br>", &["Comp", "Text"]),
-    ("<A><p slot=\"b\" let:c>{c}</p></A>", &["Comp", "Element"]),
-    ("<slot/>", &["Slot"]),
-    ("<slot name=\"a\" b={c}>d</slot>", &["Slot", "Text"]),
-    ("{#if a}{/if}", &["If", "arm"]),
-    ("{#if a}b{:else}{/if}", &["If", "arm", "Text", "else"]),
-    (
-        "{#if a}x{:else if b}y{/if}",
-        &["If", "arm", "Text", "arm", "Text"],
-    ),
-    (
-        "{#if\na}{:else\t if\rb}{:else  if c }{:else}<p/>{/if}",
-        &["If", "arm", "arm", "arm", "else", "Element"],
-    ),
-    ("{#if {a}}{/if}", &["If", "arm"]),
-    ("{#each a as b}{/each}", &["Each"]),
-    ("{#each a as b, i}{b}{/each}", &["Each", "index", "Show"]),
-    ("{#each a as b (b.c)}{/each}", &["Each", "key"]),
-    (
-        "{#each a as b , i ( b ) }c{:else}d{/each}",
-        &["Each", "index", "key", "Text", "else", "Text"],
-    ),
-    ("{#each as as as}{/each}", &["Each"]),
-    ("{#each [1, 2] as a}{/each}", &["Each"]),
-    ("{#key a}b{/key}", &["Key", "Text"]),
-    ("<script></script>", &[]),
-    ("<script\n>let a</script>", &[]),
-    ("<style></style>", &[]),
-    ("<style >p { a: b }</style>", &[]),
-    (
-        "a<script>b</script>c<style>d</style>e",
-        &["Text", "Text", "Text"],
-    ),
-    ("{#if a}{#key b}{/key}{/if}", &["If", "arm", "Key"]),
-];
+const TREES: &str = r#" ->
+ a\n -> Text
+a & b &amp; &x -> Text
+{a} -> Show
+{ a }b -> Show Text
+{/* c */ a} -> Show
+{/*}*/a} -> Show
+{{a}} -> Show
+{a}/* b */{c} -> Show Text Show
+<!-- <p> --> ->
+a<!---->b -> Text Text
+<p></p> -> Element
+<p>a</p\n> -> Element Text
+<p >a</p > -> Element Text
+<p/>a -> Element Text
+<p\n/> -> Element
+<p id="a" class='b{c}' d=e hidden {f}>{g}</p> -> Element Show
+<my-tag2></my-tag2> -> Element
+<xH></xH> -> Element
+<textareas></textareas> -> Element
+<svelte></svelte> -> Element
+<slots></slots> -> Element
+<p><!-- a --><b></b></p> -> Element Element
+<br>a -> Element Text
+<br/> -> Element
+<A/> -> Comp
+<A b={c} d bind:e let:f on:g>h</A> -> Comp Text
+<Größe></Größe > -> Comp
+<A1></A1> -> Comp
+<Br>a</Br> -> Comp Text
+<A><p slot="b" let:c>{c}</p></A> -> Comp Element
+<slot/> -> Slot
+<slot name="a" b={c}>d</slot> -> Slot Text
+{#if a}{/if} -> If arm
+{#if a}b{:else}{/if} -> If arm Text else
+{#if a}x{:else if b}y{/if} -> If arm Text arm Text
+{#if\na}{:else\t if\rb}{:else  if c }{:else}<p/>{/if} -> If arm arm arm else Element
+{#if {a}}{/if} -> If arm
+{#each a as b}{/each} -> Each
+{#each a as b, i}{b}{/each} -> Each index Show
+{#each a as b (b.c)}{/each} -> Each key
+{#each a as b , i ( b ) }c{:else}d{/each} -> Each index key Text else Text
+{#each as as as}{/each} -> Each
+{#each [1, 2] as a}{/each} -> Each
+{#key a}b{/key} -> Key Text
+<script></script> ->
+<script\n>let a</script> ->
+<style></style> ->
+<style >p { a: b }</style> ->
+a<script>b</script>c<style>d</style>e -> Text Text Text
+{#if a}{#key b}{/key}{/if} -> If arm Key"#;
 
 #[test]
 fn each_form_is_read(rt: HostRuntime) -> Result<(), Fail> {
-    for (text, parts) in TREES {
-        let tree = read(rt.alloc(), text.as_bytes())??;
-        let mut names = Vec::new(rt.alloc());
-        for node in tree.nodes.as_slice() {
-            names.push(name(node))?;
-            push_parts(node, &mut names)?;
-        }
-        assert_eq!(rt; names.as_slice(), parts, "{text}");
+    for line in TREES.split('\n') {
+        assert_eq!(rt; found(rt.alloc(), line)?.as_str(), line);
     }
     Ok(())
 }
 
-const VOID: [&str; 16] = [
-    "area", "base", "br", "col", "command", "embed", "hr", "img", "input", "keygen", "link",
-    "meta", "param", "source", "track", "wbr",
-];
+// Elements that have no content.
+const VOID: &str =
+    "area base br col command embed hr img input keygen link meta param source track wbr";
+
+// How the tag of an element may end.
+const ENDS: [&str; 4] = [">", "/>", " >", " a />"];
+
+// An element with this end, and a text behind it.
+fn opened(alloc: Global, name: &str, end: &str) -> Result<String, AllocError> {
+    format!(in alloc; "<{name}{end}b")
+}
+
+// The same with an end tag.
+fn closed(alloc: Global, name: &str, end: &str) -> Result<String, AllocError> {
+    format!(in alloc; "<{name}{end}b</{name}>")
+}
+
+// How many nodes a text has, or `None` where it is refused.
+fn count(alloc: Global, text: &str) -> Result<Option<usize>, Fail> {
+    match read(alloc, text.as_bytes())? {
+        Ok(tree) => Ok(Some(tree.nodes.len())),
+        Err(_) => Ok(None),
+    }
+}
+
+fn stands_alone(rt: &impl Abort, alloc: Global, name: &str) -> Result<(), Fail> {
+    for end in &ENDS {
+        let opened = opened(alloc, name, end)?;
+        assert_eq!(rt; count(alloc, opened.as_str())?, Some(2), "{name}{end}");
+        let closed = closed(alloc, name, end)?;
+        assert_eq!(rt; count(alloc, closed.as_str())?, None, "{name}{end}");
+    }
+    Ok(())
+}
 
 #[test]
 fn void_elements_stand_alone(rt: HostRuntime) -> Result<(), Fail> {
-    for name in VOID {
-        for end in [">", "/>", " >", " a />"] {
-            let mut text = String::from_str(rt.alloc(), "<")?;
-            text.push_str(name)?;
-            text.push_str(end)?;
-            text.push_str("b")?;
-            let tree = read(rt.alloc(), text.as_bytes())??;
-            assert_eq!(rt; tree.nodes.len(), 2, "{text}");
-            text.push_str("</")?;
-            text.push_str(name)?;
-            text.push_str(">")?;
-            assert!(rt; read(rt.alloc(), text.as_bytes())?.is_err(), "{text}");
-        }
+    for name in VOID.split(' ') {
+        stands_alone(&rt, rt.alloc(), name)?;
     }
     Ok(())
 }
 
-// The names of nodes, with a space between.
+// The names of nodes, each behind a space.
 fn listed(alloc: Global, nodes: &Nodes) -> Result<String, AllocError> {
     let mut list = String::new(alloc);
-    for node in nodes.as_slice() {
-        if !list.is_empty() {
-            list.push_str(" ")?;
-        }
-        list.push_str(name(node))?;
-    }
+    push_all(nodes, &mut list)?;
     Ok(list)
+}
+
+// The names of a source's nodes.
+fn tops(alloc: Global, text: &str) -> Result<String, Fail> {
+    let tree = read(alloc, text.as_bytes())??;
+    Ok(listed(alloc, &tree.nodes)?)
+}
+
+// A source behind the line of the names of its nodes.
+fn headed(alloc: Global, case: &str) -> Result<String, Fail> {
+    let (_, text) = case.split_once('\n').unwrap_or(("", ""));
+    let mut whole = tops(alloc, text)?;
+    whole.push_str("\n")?;
+    whole.push_str(text)?;
+    Ok(whole)
 }
 
 #[test]
 fn components_are_read(rt: HostRuntime) -> Result<(), Fail> {
-    for k in 0..53 {
-        let text = COMPONENTS[k];
-        let tree = read(rt.alloc(), text.as_bytes())??;
-        assert_eq!(rt;
-            listed(rt.alloc(), &tree.nodes)?.as_str(),
-            TOPS[k],
-            "{text}"
-        );
+    for case in COMPONENTS.split("~~~") {
+        assert_eq!(rt; headed(rt.alloc(), case)?.as_str(), case);
     }
     Ok(())
 }
 
-#[test]
-fn the_to_do_application_has_its_parts(rt: HostRuntime) -> Result<(), Fail> {
-    let tree = read(rt.alloc(), COMPONENTS[52].as_bytes())??;
-    assert_eq!(rt; tree.script.stmts.len(), 10);
-    let [
-        _,
-        Markup::Comp {
-            children: panel,
-            ..
-        },
-        _,
-        _,
-    ] = tree.nodes.as_slice()
-    else {
-        return Err("no panel".into());
+// What the panel of the application encloses.
+fn panel_of(nodes: &Nodes) -> Option<&Nodes> {
+    let [_, Markup::Comp { children, .. }, _, _] = nodes.as_slice() else {
+        return None;
     };
-    let parts = "Text Element Text Element Text Element Text Element Text Element Text";
-    assert_eq!(rt; listed(rt.alloc(), panel)?.as_str(), parts);
-    let [.., Markup::Element { children: list, .. }, _] = panel.as_slice() else {
-        return Err("no list".into());
+    Some(children)
+}
+
+// What the list of the panel encloses.
+fn list_of(panel: &Nodes) -> Option<&Nodes> {
+    let [.., Markup::Element { children, .. }, _] = panel.as_slice() else {
+        return None;
     };
+    Some(children)
+}
+
+// A row of the list, which has a key, and what stands where there is no row.
+fn rows_of(list: &Nodes) -> Option<(&Nodes, &Nodes)> {
     let [
         _,
         Markup::Each {
@@ -243,23 +274,60 @@ fn the_to_do_application_has_its_parts(rt: HostRuntime) -> Result<(), Fail> {
         _,
     ] = list.as_slice()
     else {
-        return Err("no rows".into());
+        return None;
     };
-    assert_eq!(rt; listed(rt.alloc(), body)?.as_str(), "Text Comp Text");
-    assert_eq!(rt; listed(rt.alloc(), none)?.as_str(), "Text Element Text");
+    Some((body, none))
+}
+
+// The names of the nodes in the panel, in a row and where there is no row, with `;` between.
+fn application_parts(alloc: Global, nodes: &Nodes) -> Result<String, Fail> {
+    let panel = panel_of(nodes).ok_or("no panel")?;
+    let list = list_of(panel).ok_or("no list")?;
+    let (row, none) = rows_of(list).ok_or("no rows")?;
+    let mut parts = listed(alloc, panel)?;
+    push_part(row, &mut parts)?;
+    push_part(none, &mut parts)?;
+    Ok(parts)
+}
+
+fn push_part(nodes: &Nodes, parts: &mut String) -> Result<(), AllocError> {
+    parts.push_str(";")?;
+    push_all(nodes, parts)
+}
+
+// How many statements the application has, and its parts.
+fn application(alloc: Global) -> Result<(usize, String), Fail> {
+    let (_, case) = COMPONENTS.rsplit_once("~~~").unwrap_or(("", ""));
+    let (_, text) = case.split_once('\n').unwrap_or(("", ""));
+    let tree = read(alloc, text.as_bytes())??;
+    let parts = application_parts(alloc, &tree.nodes)?;
+    Ok((tree.script.stmts.len(), parts))
+}
+
+#[test]
+fn the_to_do_application_has_its_parts(rt: HostRuntime) -> Result<(), Fail> {
+    let parts =
+        " Text Element Text Element Text Element Text Element Text Element Text; Text Comp Text; Text Element Text";
+    let (count, found) = application(rt.alloc())?;
+    assert_eq!(rt; (count, found.as_str()), (10, parts));
     Ok(())
+}
+
+// The file of a module and how many items it has.
+fn module_size(alloc: Global, text: &str) -> Result<(u16, usize), Fail> {
+    let bytes = text.as_bytes();
+    if bytes.len() >= 1000 {
+        return Err("too long".into());
+    }
+    let mut names = Names::empty(alloc);
+    let module = parse_module(alloc, &mut names, 7, bytes)?;
+    Ok((module.file, module.script.stmts.len()))
 }
 
 #[test]
 fn modules_are_read(rt: HostRuntime) -> Result<(), Fail> {
-    for text in MODULES {
-        let bytes = text.as_bytes();
-        if bytes.len() < 1000 {
-            let mut names = Names::empty(rt.alloc());
-            let module = parse_module(rt.alloc(), &mut names, 7, bytes)?;
-            assert_eq!(rt; module.file, 7);
-            assert_eq!(rt; module.script.stmts.len(), 2, "{text}");
-        }
+    for text in MODULES.split("~~~") {
+        assert_eq!(rt; module_size(rt.alloc(), text)?, (7, 2), "{text}");
     }
     Ok(())
 }
@@ -268,9 +336,7 @@ fn span(from: u32, to: u32) -> Span {
     Span { file: 0, from, to }
 }
 
-#[test]
-fn an_element_has_its_parts(rt: HostRuntime) -> Result<(), Fail> {
-    let tree = read(rt.alloc(), b"a<p id={b}>&lt;</p\n>")??;
+fn has_element(rt: &impl Abort, nodes: &Nodes) -> Result<(), Fail> {
     let [
         _,
         Markup::Element {
@@ -279,18 +345,45 @@ fn an_element_has_its_parts(rt: HostRuntime) -> Result<(), Fail> {
             attrs,
             children,
         },
-    ] = tree.nodes.as_slice()
+    ] = nodes.as_slice()
     else {
         return Err("no element".into());
     };
     assert_eq!(rt; *all, span(1, 20));
     assert_eq!(rt; name.as_str(), "p");
     assert_eq!(rt; attrs.len(), 1);
-    let [Markup::Text { span: at, text }] = children.as_slice() else {
+    has_text(rt, children)
+}
+
+fn has_text(rt: &impl Abort, nodes: &Nodes) -> Result<(), Fail> {
+    let [Markup::Text { span: at, text }] = nodes.as_slice() else {
         return Err("no text".into());
     };
     assert_eq!(rt; *at, span(11, 15));
     assert_eq!(rt; text.as_str(), "<");
+    Ok(())
+}
+
+#[test]
+fn an_element_has_its_parts(rt: HostRuntime) -> Result<(), Fail> {
+    let tree = read(rt.alloc(), b"a<p id={b}>&lt;</p\n>")??;
+    has_element(&rt, &tree.nodes)
+}
+
+fn have_names(rt: &impl Abort, nodes: &Nodes) -> Result<(), Fail> {
+    let [
+        Markup::Comp { name: a, .. },
+        Markup::Comp { name: b, .. },
+        Markup::Slot { name: none, .. },
+        Markup::Slot { name: c, attrs, .. },
+    ] = nodes.as_slice()
+    else {
+        return Err("no tags".into());
+    };
+    assert_eq!(rt; (*a, *b), (Name(1), Name(0)));
+    assert_eq!(rt; none.as_str(), "");
+    assert_eq!(rt; c.as_str(), "c");
+    assert!(rt; attrs.is_empty());
     Ok(())
 }
 
@@ -300,74 +393,87 @@ fn tags_have_names(rt: HostRuntime) -> Result<(), Fail> {
     names.intern("B")?;
     let bytes = b"<A/><B b/><slot/><slot name=\"c\"/>";
     let tree = parse_component(rt.alloc(), &mut names, 3, bytes)?;
-    assert_eq!(rt; tree.file, 3);
-    let [
-        Markup::Comp { name: a, .. },
-        Markup::Comp { name: b, .. },
-        Markup::Slot { name: none, .. },
-        Markup::Slot { name: c, attrs, .. },
-    ] = tree.nodes.as_slice()
-    else {
-        return Err("no tags".into());
-    };
-    assert_eq!(rt; (*a, *b), (Name(1), Name(0)));
-    assert_eq!(rt; none.as_str(), "");
-    assert_eq!(rt; c.as_str(), "c");
-    assert!(rt; attrs.is_empty());
-    assert_eq!(rt; names.len(), 3);
-    Ok(())
+    assert_eq!(rt; (tree.file, names.len()), (3, 3));
+    have_names(&rt, &tree.nodes)
 }
 
-#[test]
-fn blocks_have_their_parts(rt: HostRuntime) -> Result<(), Fail> {
-    let mut names = Names::empty(rt.alloc());
-    let bytes = b" {#each l as x, i (k)}{/each}{#if a}{:else if {b}}{/if}{#key v}{/key}";
-    let tree = parse_component(rt.alloc(), &mut names, 0, bytes)?;
-    let [
-        _,
-        Markup::Each {
-            span: each,
-            list,
-            item,
-            index: Some(index),
-            key: Some(key),
-            ..
-        },
-        Markup::If {
-            span: all,
-            arms,
-            ..
-        },
-        Markup::Key {
-            span: block,
-            value,
-            ..
-        },
-    ] = tree.nodes.as_slice()
+fn is_each(rt: &impl Abort, node: &Markup) -> Result<(), Fail> {
+    let Markup::Each {
+        span: each,
+        list,
+        item,
+        index: Some(index),
+        key: Some(key),
+        ..
+    } = node
     else {
-        return Err("no blocks".into());
+        return Err("no rows".into());
     };
     assert_eq!(rt; *each, span(1, 29));
     assert_eq!(rt; list.span, span(8, 9));
     assert_eq!(rt; (item.name, index.name), (Name(1), Name(2)));
     assert_eq!(rt; key.span, span(19, 20));
-    assert_eq!(rt; *all, span(29, 55));
-    let [_, second] = arms.as_slice() else {
+    Ok(())
+}
+
+fn is_if(rt: &impl Abort, node: &Markup) -> Result<(), Fail> {
+    let Markup::If {
+        span: all,
+        arms,
+        ..
+    } = node
+    else {
         return Err("no arms".into());
     };
+    let [_, second] = arms.as_slice() else {
+        return Err("no second arm".into());
+    };
+    assert_eq!(rt; *all, span(29, 55));
     assert_eq!(rt; second.test.span, span(46, 49));
+    Ok(())
+}
+
+fn is_key(rt: &impl Abort, node: &Markup) -> Result<(), Fail> {
+    let Markup::Key {
+        span: block,
+        value,
+        ..
+    } = node
+    else {
+        return Err("no key".into());
+    };
     assert_eq!(rt; *block, span(55, 69));
     assert_eq!(rt; value.span, span(61, 62));
+    Ok(())
+}
+
+fn are_blocks(rt: &impl Abort, nodes: &Nodes) -> Result<(), Fail> {
+    let [_, each, chosen, key] = nodes.as_slice() else {
+        return Err("no blocks".into());
+    };
+    is_each(rt, each)?;
+    is_if(rt, chosen)?;
+    is_key(rt, key)
+}
+
+#[test]
+fn blocks_have_their_parts(rt: HostRuntime) -> Result<(), Fail> {
+    let bytes = b" {#each l as x, i (k)}{/each}{#if a}{:else if {b}}{/if}{#key v}{/key}";
+    let tree = read(rt.alloc(), bytes)??;
+    are_blocks(&rt, &tree.nodes)
+}
+
+fn is_let(rt: &impl Abort, stmts: &[Stmt]) -> Result<(), Fail> {
+    let [stmt] = stmts else {
+        return Err("no statement".into());
+    };
+    assert_eq!(rt; stmt.span, span(10, 20));
+    assert!(rt; matches!(&stmt.kind, StmtKind::Let(_)));
     Ok(())
 }
 
 #[test]
 fn a_script_has_its_statements(rt: HostRuntime) -> Result<(), Fail> {
     let tree = read(rt.alloc(), b"a<script>\nlet b = 1;\n</script>")??;
-    let [stmt] = tree.script.stmts.as_slice() else {
-        return Err("no statement".into());
-    };
-    assert_eq!(rt; stmt.span, span(10, 20));
-    assert!(rt; matches!(&stmt.kind, StmtKind::Let(_)));
-    Ok(())
+    is_let(&rt, tree.script.stmts.as_slice())
 }

@@ -1,27 +1,27 @@
-// Sources of components and modules that are read.
+// Sources of components and modules that are read, with `~~~` between.
 
-/// Components.
-pub const COMPONENTS: [&str; 53] = [
-    r#"<script>
+/// Components, each behind a line of the names of its nodes. The last one is an application.
+pub const COMPONENTS: &str = r#" Text Element Text
+<script>
   let count = 0;
 </script>
 <button id="b" on:click={() => count += 1}>Clicked {count}</button>
-"#,
-    "",
-    r#"<script>
+~~~
+~~~ Text Element Text
+<script>
   let n = 1
   $: b = a + 1
   $: a = n * 2
   $: console.log(a, b)
 </script>
 <button id="b" on:click={() => n += 1}>{b}</button>
-"#,
-    r#"<script>
+~~~ Text
+<script>
   $: x = y;
   $: y = x;
 </script>
-"#,
-    r#"<script>
+~~~ Text Element Text
+<script>
   import { beforeUpdate } from 'svelte'
   let a = 0
   let n = 0
@@ -29,44 +29,44 @@ pub const COMPONENTS: [&str; 53] = [
   beforeUpdate(() => { a = n })
 </script>
 <button id="b" on:click={() => n += 1}>{n} {a} {b}</button>
-"#,
-    r#"<script>
+~~~ Text Element Each Text
+<script>
   let items = [{ id: 1 }, { id: 2 }];
   function flip() { items = [items[1], items[0]]; }
 </script>
 <button id="f" on:click={flip}>flip</button>{#each items as it (it.id)}<input id="i{it.id}">{/each}
-"#,
-    r#"<script>
+~~~ Text Element Each Text
+<script>
   let items = [{ id: 1 }, { id: 2 }];
   function flip() { items = [items[1], items[0]]; }
 </script>
 <button id="f" on:click={flip}>flip</button>{#each items as it}<input id="i{it.id}">{/each}
-"#,
-    r#"{#each [1, '1'] as k (k)}<b>{k}</b>{/each}
-"#,
-    r#"{#each [1, 1] as k (k)}<b>{k}</b>{/each}
-"#,
-    r#"<script>
+~~~ Each Text
+{#each [1, '1'] as k (k)}<b>{k}</b>{/each}
+~~~ Each Text
+{#each [1, 1] as k (k)}<b>{k}</b>{/each}
+~~~ Text Element Element Key Key Text
+<script>
   let n = 1;
   let o = {};
 </script>
 <button id="n" on:click={() => n = n}>n</button><button id="o" on:click={() => o = o}>o</button>{#key n}<i>n</i>{/key}{#key o}<i>o</i>{/key}
-"#,
-    r#"<script>
+~~~ Text Element If Text
+<script>
   import Child from './Child.svelte'
   let seen = 0
   let show = false
   function hello() { seen += 1 }
 </script>
 <button id="b" on:click={() => show = !show}>{seen}</button>{#if show}<Child {hello}/>{/if}
-"#,
-    r#"<script>
+~~~ Text Element Text
+<script>
   export let hello
   hello()
 </script>
 <p>hi</p>
-"#,
-    r#"<script>
+~~~ Text Element If Comp Text
+<script>
   import X from './X.svelte'
   import Child from './Child.svelte'
   let a = 0
@@ -74,46 +74,46 @@ pub const COMPONENTS: [&str; 53] = [
   function hello() { b += 1 }
 </script>
 <button id="b" on:click={() => a += 1}>go</button>{#if a > 0}<Child {hello}/>{/if}<X>{a}{b}</X>
-"#,
-    r#"<script>
+~~~ Text Comp Text
+<script>
   import Y from './Y.svelte'
 </script>
 <Y><slot/></Y>
-"#,
-    r#"<div><slot/></div>
-"#,
-    r#"<script>
+~~~ Element Text
+<div><slot/></div>
+~~~ Text Element Comp Comp Text
+<script>
   import Plain from './Plain.svelte'
   import Clamp from './Clamp.svelte'
   let v = 3
 </script>
 <button id="b" on:click={() => v = 99}>{v}</button><Plain bind:v/><Clamp bind:v/>
-"#,
-    r#"<script>
+~~~ Text Element Text
+<script>
   export let v
 </script>
 <i>{v}</i>
-"#,
-    r#"<script>
+~~~ Text Element Text
+<script>
   export let v
   $: if (v > 10) v = 10
 </script>
 <b>{v}</b>
-"#,
-    r#"<script>
+~~~ Text Comp Text
+<script>
   import C from './C.svelte'
   let n = 0
   function up(v) { n = v + 1 }
 </script>
 <C {n} {up}/>
-"#,
-    r#"<script>
+~~~ Text
+<script>
   export let n
   export let up
   $: up(n)
 </script>
-"#,
-    r#"<script>
+~~~ Text Element Text
+<script>
   let v0 = 0
   let v1 = 0
   let v2 = 0
@@ -148,26 +148,26 @@ pub const COMPONENTS: [&str; 53] = [
   let v31 = 0
 </script>
 <button id="b" on:click={() => v31 += 1}>{v0} {v31}</button>
-"#,
-    r#"<script>
+~~~ Text Element Text
+<script>
   import { onDestroy } from 'svelte'
   import { gone } from './store.js'
   export let id
   onDestroy(() => { $gone = $gone + 1 })
 </script>
 <li>{id}:{$gone}</li>
-"#,
-    r#"<script>
+~~~ Text Element Each Text
+<script>
   import Row from './Row.svelte'
   let ids = [1, 2, 3]
 </script>
 <button id="b" on:click={() => ids = [1, 3]}>cut</button>{#each ids as id (id)}<Row {id}/>{/each}
-"#,
-    r#"<p>{9007199254740991} {Math.floor(-7 / 2)} {-7 % 2} {Math.trunc(-7 / 2)}</p>
-"#,
-    r#"<p>{9007199254740991 + 1}</p>
-"#,
-    r#"<script>
+~~~ Element Text
+<p>{9007199254740991} {Math.floor(-7 / 2)} {-7 % 2} {Math.trunc(-7 / 2)}</p>
+~~~ Element Text
+<p>{9007199254740991 + 1}</p>
+~~~ Text Element Text
+<script>
   import { onMount, beforeUpdate, afterUpdate, onDestroy } from 'svelte'
   export let n
   beforeUpdate(() => console.log('C before', n))
@@ -179,8 +179,8 @@ pub const COMPONENTS: [&str; 53] = [
   })
 </script>
 <i>{n}</i>
-"#,
-    r#"<script>
+~~~ Text Element If Text
+<script>
   import { onMount, beforeUpdate, afterUpdate } from 'svelte'
   import C from './C.svelte'
   let n = 0
@@ -189,25 +189,25 @@ pub const COMPONENTS: [&str; 53] = [
   onMount(() => console.log('A mount'))
 </script>
 <button id="b" on:click={() => n += 1}>+</button>{#if n < 2}<C {n}/>{/if}
-"#,
-    r#"<script>
+~~~ Text Element Text
+<script>
   let count = 0
   function twice() { return count * 2 }
 </script>
 <p>{twice()}</p>
-"#,
-    r#"<script>
+~~~ Text Comp Text
+<script>
   import C from './C.svelte'
 </script>
 <C m={1}/>
-"#,
-    r#"<p>{x}</p>
-"#,
-    r#"<script>
+~~~ Element Text
+<p>{x}</p>
+~~~ Text
+<script>
   while (true) {}
 </script>
-"#,
-    r#"<script>
+~~~ Text Element Element Text
+<script>
   let x = 1;
   let rows = [];
   let i = 0;
@@ -220,94 +220,94 @@ pub const COMPONENTS: [&str; 53] = [
   }
 </script>
 <button id="s" on:click={step}>{x}</button><ul>{#each rows as r (r.id)}<li>{r.id}:{r.n}</li>{/each}</ul>
-"#,
-    r#"<script>
+~~~ Text Comp Text
+<script>
   import { setContext } from 'svelte'
   import Box from './Box.svelte'
   import Leaf from './Leaf.svelte'
   setContext('k', 7)
 </script>
 <Box><Leaf/></Box>
-"#,
-    r#"<script>
+~~~ Text Slot Text
+<script>
   import { setContext } from 'svelte'
   setContext('k', 8)
 </script>
 <slot/>
-"#,
-    r#"<script>
+~~~ Text Element Text
+<script>
   import { getContext } from 'svelte'
   const k = getContext('k')
 </script>
 <i>{k}</i>
-"#,
-    r#"<p>{y => y}</p>
-"#,
-    r#"<p class="a b" class:b={false} class:c={true}>x</p>
-"#,
-    r#"<p hidden={0} title={null} id={7}>x</p>
-"#,
-    r#"<script>
+~~~ Element Text
+<p>{y => y}</p>
+~~~ Element Text
+<p class="a b" class:b={false} class:c={true}>x</p>
+~~~ Element Text
+<p hidden={0} title={null} id={7}>x</p>
+~~~ Text Element Text
+<script>
   let n = 0
 </script>
 <div id="d" on:click|self={() => n += 100} on:click={() => n += 1}><b id="b" on:click|stopPropagation={() => n += 10}><i id="i">{n}</i></b></div>
-"#,
-    r#"<script>
+~~~ Text Element Show Text
+<script>
   let v = 1
 </script>
 <input id="q" type="number" bind:value={v}>{v}
-"#,
-    r#"<script>
+~~~ Text Element Text
+<script>
   export let items
 </script>
 <ul>{#each items as it}<li><slot item={it}>none</slot></li>{/each}</ul>
-"#,
-    r#"<script>
+~~~ Text Element Comp Comp Text
+<script>
   import List from './List.svelte'
   let k = 2
 </script>
 <button id="b" on:click={() => k += 1}>+</button><List items={[1, 2]} let:item>{item * k}</List><List items={[7]}/>
-"#,
-    r#"<script>
+~~~ Text Element Text
+<script>
   import { n } from './store.js'
 </script>
 <i>{$n}</i>
-"#,
-    r#"<script>
+~~~ Text Element If Text
+<script>
   import Show from './Show.svelte'
   import { n } from './store.js'
   function up() { n.update(v => v + 1) }
 </script>
 <button id="b" on:click={up}>{$n}</button>{#if $n < 2}<Show/>{/if}
-"#,
-    r#"<script>
+~~~ Text Element Text
+<script>
   import { createEventDispatcher } from 'svelte'
   const d = createEventDispatcher()
 </script>
 <button id="b" on:click={() => d('hit', 3)}>x</button>
-"#,
-    r#"<script>
+~~~ Text Comp Text
+<script>
   import Btn from './Btn.svelte'
 </script>
 <Btn on:hit/>
-"#,
-    r#"<script>
+~~~ Text Comp Element Text
+<script>
   import Mid from './Mid.svelte'
   let n = 0
 </script>
 <Mid on:hit={e => n += e.detail}/><p>{n}</p>
-"#,
-    r#"<script>
+~~~ Text Element Each Text
+<script>
   let k = 0
 </script>
 <button id="b" on:click={() => k += 1}>+</button>{#each [1, 2] as x (x + k)}<i>{x}</i>{/each}
-"#,
-    r#"<script>
+~~~ Text Element Text
+<script>
   export let s
 </script>
 <i>{$s}</i>
-"#,
-    r#"<script>
+~~~ Text Element Element Comp Text
+<script>
   import { writable } from 'svelte/store'
   import Show from './Show.svelte'
   const a = writable(1)
@@ -315,13 +315,13 @@ pub const COMPONENTS: [&str; 53] = [
   let s = a
 </script>
 <button id="b" on:click={() => s = b}>{$s}</button><button id="u" on:click={() => $s = $s + 1}>up</button><Show {s}/>
-"#,
-    r#"<section>
+~~~ Element Text
+<section>
   <h2><slot name="title">Untitled</slot></h2>
   <slot/>
 </section>
-"#,
-    r#"<script>
+~~~ Text Element Text
+<script>
   import { createEventDispatcher } from 'svelte'
   export let todo
   const dispatch = createEventDispatcher()
@@ -331,8 +331,8 @@ pub const COMPONENTS: [&str; 53] = [
   <input id="c{todo.id}" type="checkbox" checked={todo.done} on:change={() => dispatch('toggle', todo.id)}>
   {todo.text}
 </li>
-"#,
-    r#"<script>
+~~~ Text Comp Text Text
+<script>
   import Panel from './Panel.svelte'
   import Item from './Item.svelte'
   import { todos } from './store.js'
@@ -373,75 +373,15 @@ pub const COMPONENTS: [&str; 53] = [
 <style>
   ul { list-style: none }
 </style>
-"#,
-];
-
-/// The nodes at the top of each.
-pub const TOPS: [&str; 53] = [
-    "Text Element Text",
-    "",
-    "Text Element Text",
-    "Text",
-    "Text Element Text",
-    "Text Element Each Text",
-    "Text Element Each Text",
-    "Each Text",
-    "Each Text",
-    "Text Element Element Key Key Text",
-    "Text Element If Text",
-    "Text Element Text",
-    "Text Element If Comp Text",
-    "Text Comp Text",
-    "Element Text",
-    "Text Element Comp Comp Text",
-    "Text Element Text",
-    "Text Element Text",
-    "Text Comp Text",
-    "Text",
-    "Text Element Text",
-    "Text Element Text",
-    "Text Element Each Text",
-    "Element Text",
-    "Element Text",
-    "Text Element Text",
-    "Text Element If Text",
-    "Text Element Text",
-    "Text Comp Text",
-    "Element Text",
-    "Text",
-    "Text Element Element Text",
-    "Text Comp Text",
-    "Text Slot Text",
-    "Text Element Text",
-    "Element Text",
-    "Element Text",
-    "Element Text",
-    "Text Element Text",
-    "Text Element Show Text",
-    "Text Element Text",
-    "Text Element Comp Comp Text",
-    "Text Element Text",
-    "Text Element If Text",
-    "Text Element Text",
-    "Text Comp Text",
-    "Text Comp Element Text",
-    "Text Element Each Text",
-    "Text Element Text",
-    "Text Element Element Comp Text",
-    "Element Text",
-    "Text Element Text",
-    "Text Comp Text Text",
-];
+"#;
 
 /// Modules.
-pub const MODULES: [&str; 3] = [
-    r#"import { writable } from 'svelte/store'
+pub const MODULES: &str = r#"import { writable } from 'svelte/store'
 export const gone = writable(0)
-"#,
-    r#"import { writable } from 'svelte/store'
+~~~
+import { writable } from 'svelte/store'
 export const n = writable(0)
-"#,
-    r#"import { writable } from 'svelte/store'
+~~~
+import { writable } from 'svelte/store'
 export const todos = writable([])
-"#,
-];
+"#;
