@@ -6,5 +6,7 @@ mod dom;
 #[cfg(test)]
 mod html;
 mod moves;
+#[cfg(test)]
+mod pages;
 
 pub use moves::is_move;
