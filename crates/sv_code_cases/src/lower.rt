@@ -5,7 +5,9 @@ use sv_ast::{
     Body, Expr, ExprKind, Import, NameList, Named, Ref, Spec, Specs, Stmt, StmtKind, Stmts,
 };
 use sv_base::{Name, NoMemory, Num, Span, Text};
-use sv_code::{Code, CodeKind, CodeStmt, CodeStmtKind, Function, FunctionBody, Functions};
+use sv_code::{
+    Code, CodeKind, CodeStmt, CodeStmtKind, CodeStmts, Function, FunctionBody, Functions,
+};
 use sv_list::Boxed;
 use sv_lower::{lower_expr, lower_stmts};
 
@@ -152,44 +154,70 @@ fn imports(stmt: &CodeStmt) -> bool {
     spec.given == named(B) && spec.local == named(C)
 }
 
+// `x => y => 0`.
+fn nested_arrows(alloc: Global, zero: Num) -> Result<Expr, NoMemory> {
+    let inner = arrow(alloc, Y, expr(ExprKind::Num(zero)))?;
+    arrow(alloc, X, inner)
+}
+
+// Whether these are `y => 0` and an arrow that gives it.
+fn are_nested(functions: &[Function], zero: Num) -> bool {
+    functions.len() == 2 && gives_num(&functions[0], Y, zero) && gives_arrow(&functions[1], X, 0)
+}
+
+// Whether the code of `x => y => 0` is the arrow 1, and the arrows are numbered from the innermost.
+fn is_numbered(alloc: Global, outer: &Expr, zero: Num) -> Result<bool, NoMemory> {
+    let mut functions = Functions::new(alloc);
+    let code = lower_expr(alloc, &mut functions, outer)?;
+    let is_outer = code.span == at(0) && matches!(code.kind, CodeKind::Arrow(1));
+    Ok(is_outer && are_nested(functions.as_slice(), zero))
+}
+
+// The same of that arrow, made here.
+fn are_numbered(alloc: Global, zero: Num) -> Result<bool, NoMemory> {
+    let outer = nested_arrows(alloc, zero)?;
+    is_numbered(alloc, &outer, zero)
+}
+
 #[test]
 fn an_arrow_inside_another_has_the_lower_number(rt: HostRuntime) -> Result<(), Fail> {
-    let alloc = rt.alloc();
     let zero = Num::new(0).ok_or("no number")?;
-    let inner = arrow(alloc, Y, expr(ExprKind::Num(zero)))?;
-    let outer = arrow(alloc, X, inner)?;
-    let mut functions = Functions::new(alloc);
-    let code = lower_expr(alloc, &mut functions, &outer)?;
-    assert_eq!(rt; code.span, at(0));
-    assert!(rt; matches!(code.kind, CodeKind::Arrow(1)));
-    assert_eq!(rt; functions.len(), 2);
-    assert!(rt; gives_num(&functions.as_slice()[0], Y, zero));
-    assert!(rt; gives_arrow(&functions.as_slice()[1], X, 0));
+    assert!(rt; are_numbered(rt.alloc(), zero)?);
     Ok(())
+}
+
+// The code of a script of one statement, and the functions in it.
+fn lowered_script(alloc: Global, kind: StmtKind) -> Result<(CodeStmts, Functions), NoMemory> {
+    let stmts = script(alloc, kind)?;
+    let mut functions = Functions::new(alloc);
+    let codes = lower_stmts(alloc, &mut functions, stmts.as_slice())?;
+    Ok((codes, functions))
+}
+
+// Whether this is the one function of a script, which declares it.
+fn is_declared(codes: &[CodeStmt], functions: &[Function]) -> bool {
+    functions.len() == 1
+        && returns_parameter(&functions[0], A)
+        && codes.len() == 1
+        && codes[0].span == at(7)
+        && declares(&codes[0], F, 0)
 }
 
 #[test]
 fn a_function_is_a_number(rt: HostRuntime) -> Result<(), Fail> {
-    let alloc = rt.alloc();
-    let stmts = script(alloc, function(alloc)?)?;
-    let mut functions = Functions::new(alloc);
-    let codes = lower_stmts(alloc, &mut functions, stmts.as_slice())?;
-    assert_eq!(rt; functions.len(), 1);
-    assert!(rt; returns_parameter(&functions.as_slice()[0], A));
-    assert_eq!(rt; codes.len(), 1);
-    assert_eq!(rt; codes.as_slice()[0].span, at(7));
-    assert!(rt; declares(&codes.as_slice()[0], F, 0));
+    let (codes, functions) = lowered_script(rt.alloc(), function(rt.alloc())?)?;
+    assert!(rt; is_declared(codes.as_slice(), functions.as_slice()));
     Ok(())
+}
+
+// Whether this is the code of that one import, with no function.
+fn is_imported(codes: &[CodeStmt], functions: &[Function]) -> bool {
+    functions.is_empty() && codes.len() == 1 && imports(&codes[0])
 }
 
 #[test]
 fn an_import_stays_as_it_is(rt: HostRuntime) -> Result<(), Fail> {
-    let alloc = rt.alloc();
-    let stmts = script(alloc, import(alloc)?)?;
-    let mut functions = Functions::new(alloc);
-    let codes = lower_stmts(alloc, &mut functions, stmts.as_slice())?;
-    assert_eq!(rt; functions.len(), 0);
-    assert_eq!(rt; codes.len(), 1);
-    assert!(rt; imports(&codes.as_slice()[0]));
+    let (codes, functions) = lowered_script(rt.alloc(), import(rt.alloc())?)?;
+    assert!(rt; is_imported(codes.as_slice(), functions.as_slice()));
     Ok(())
 }
