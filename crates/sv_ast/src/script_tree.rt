@@ -1,6 +1,9 @@
 // Expressions and statements.
+ghost use Rattle.std.specs.Prelude.{◌≡◌, IfOk};
+
 use crate::names::{NameList, Named, Ref};
 use crate::operators::{AssignOp, Op};
+use std::alloc::{AllocError, Global};
 use sv_base::{Name, Num, Span, Text};
 use sv_list::Boxed;
 
@@ -33,7 +36,17 @@ pub type Specs = sv_list::Items<Spec>;
 #[derive(Drop)]
 pub struct Expr {
     pub span: Span,
-    pub kind: ExprKind,
+    pub kind: Boxed<ExprKind>,
+}
+
+impl Expr {
+    /// An expression of this form, at this place. An error is want of memory.
+    pub fn new(alloc: Global, span: Span, kind: ExprKind) -> Result<Expr, AllocError>
+        ensures { IfOk result (λ made. made ≡ record { span = span; kind = kind }) }
+    {
+        let kind = Boxed::new(alloc, kind)?;
+        Ok(Expr { span, kind })
+    }
 }
 
 /// The forms of expressions.
@@ -63,7 +76,7 @@ pub enum ExprKind {
     Assign {
         target: Ref,
         op: AssignOp,
-        value: Boxed<Expr>,
+        value: Expr,
     },
     /// `++`, where `up`, or `--`, before its target, where `prefix`, or behind it.
     Bump {
@@ -73,32 +86,32 @@ pub enum ExprKind {
     },
     /// An operand and, to its right, the operators of one level, of which there is at least one.
     Chain {
-        first: Boxed<Expr>,
+        first: Expr,
         rest: Links,
     },
     /// `!e`.
-    Not(Boxed<Expr>),
+    Not(Expr),
     /// `-e`.
-    Minus(Boxed<Expr>),
+    Minus(Expr),
     /// `test ? yes : no`.
     Choose {
-        test: Boxed<Expr>,
-        yes: Boxed<Expr>,
-        no: Boxed<Expr>,
+        test: Expr,
+        yes: Expr,
+        no: Expr,
     },
     /// `of.word`.
     Member {
-        of: Boxed<Expr>,
+        of: Expr,
         word: Name,
     },
     /// `of[at]`.
     Index {
-        of: Boxed<Expr>,
-        at: Boxed<Expr>,
+        of: Expr,
+        at: Expr,
     },
     /// `of(args)`.
     Call {
-        of: Boxed<Expr>,
+        of: Expr,
         args: Exprs,
     },
 }
@@ -132,7 +145,7 @@ pub enum Field {
 #[cycle(script)]
 #[derive(Drop)]
 pub enum Body {
-    Value(Boxed<Expr>),
+    Value(Expr),
     Block(Stmts),
 }
 
@@ -172,7 +185,17 @@ pub struct Spec {
 #[derive(Drop)]
 pub struct Stmt {
     pub span: Span,
-    pub kind: StmtKind,
+    pub kind: Boxed<StmtKind>,
+}
+
+impl Stmt {
+    /// A statement of this form, at this place. An error is want of memory.
+    pub fn new(alloc: Global, span: Span, kind: StmtKind) -> Result<Stmt, AllocError>
+        ensures { IfOk result (λ made. made ≡ record { span = span; kind = kind }) }
+    {
+        let kind = Boxed::new(alloc, kind)?;
+        Ok(Stmt { span, kind })
+    }
 }
 
 /// The forms of statements.
@@ -193,26 +216,26 @@ pub enum StmtKind {
     /// `if`, with the branches joined by `else if` and the last `else`.
     If {
         arms: Arms,
-        last: Option<Boxed<Stmt>>,
+        last: Option<Stmt>,
     },
     /// `while (test) body`.
     While {
         test: Expr,
-        body: Boxed<Stmt>,
+        body: Stmt,
     },
     /// `for (first; test; next) body`, where `first` is a `Let` or an `Eval` whose span ends before the `;`.
     For {
-        first: Option<Boxed<Stmt>>,
+        first: Option<Stmt>,
         test: Option<Expr>,
         next: Option<Expr>,
-        body: Boxed<Stmt>,
+        body: Stmt,
     },
     /// `for (const name of list) body`, where `fixed`, or the same with `let`.
     Each {
         name: Named,
         fixed: bool,
         list: Expr,
-        body: Boxed<Stmt>,
+        body: Stmt,
     },
     Break,
     Continue,
@@ -224,7 +247,7 @@ pub enum StmtKind {
     /// `export let ..`.
     Export(Decls),
     /// `$: statement`.
-    React(Boxed<Stmt>),
+    React(Stmt),
     /// `function name(params) { body }`, of which `exported` says that `export` stands before it.
     Func {
         name: Named,

@@ -2,7 +2,6 @@
 use crate::{Expr, ExprKind, Kind, Markup, Nodes, ParseError, Ref};
 use std::test::Fail;
 use sv_base::{Name, NoMemory, Span};
-use sv_list::Boxed;
 
 #[test]
 fn trees_hold_what_was_put_in(rt: HostRuntime) -> Result<(), Fail> {
@@ -11,24 +10,18 @@ fn trees_hold_what_was_put_in(rt: HostRuntime) -> Result<(), Fail> {
         from: 1,
         to: 2,
     };
-    let read = Expr {
-        span,
-        kind: ExprKind::Read(Ref::Store(Name(7))),
-    };
-    let value = Expr {
-        span,
-        kind: ExprKind::Not(Boxed::new(rt.alloc(), read)?),
-    };
+    let read = Expr::new(rt.alloc(), span, ExprKind::Read(Ref::Store(Name(7))))?;
+    let value = Expr::new(rt.alloc(), span, ExprKind::Not(read))?;
     let mut nodes = Nodes::new(rt.alloc());
     nodes.push(Markup::Show { span, value })?;
     assert_eq!(rt; nodes.len(), 1);
     let Markup::Show { value, .. } = &nodes.as_slice()[0] else {
         return Err("no expression".into());
     };
-    let ExprKind::Not(of) = &value.kind else {
+    let ExprKind::Not(of) = value.kind.get() else {
         return Err("no negation".into());
     };
-    let ExprKind::Read(name) = &of.get().kind else {
+    let ExprKind::Read(name) = of.kind.get() else {
         return Err("no name".into());
     };
     assert_eq!(rt; *name, Ref::Store(Name(7)));

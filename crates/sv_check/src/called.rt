@@ -73,7 +73,7 @@ fn add_stmts(places: &mut Places, stmts: &[Stmt]) -> Result<(), NoMemory>
 fn add_stmt(places: &mut Places, stmt: &Stmt) -> Result<(), NoMemory>
     ensures { OnOk result (places.new ≡ spec.with_places places.old (spec.free_in stmt.now)) }
 {
-    match &stmt.kind {
+    match stmt.kind.get() {
         StmtKind::Eval(e) => add_called(places, e),
         StmtKind::Let(decls) | StmtKind::Export(decls) => add_decls(places, decls.as_slice()),
         StmtKind::Const { decls, .. } => add_decls(places, decls.as_slice()),
@@ -102,8 +102,8 @@ fn add_first(places: &mut Places, first: &Option<Expr>) -> Result<(), NoMemory>
 fn add_called(places: &mut Places, e: &Expr) -> Result<(), NoMemory>
     ensures { OnOk result (places.new ≡ spec.with_places places.old (spec.called e.now)) }
 {
-    match &e.kind {
-        ExprKind::Call { of, .. } => add_name(places, of.get()),
+    match e.kind.get() {
+        ExprKind::Call { of, .. } => add_name(places, of),
         _ => Ok(()),
     }
 }
@@ -111,7 +111,7 @@ fn add_called(places: &mut Places, e: &Expr) -> Result<(), NoMemory>
 fn add_name(places: &mut Places, e: &Expr) -> Result<(), NoMemory>
     ensures { OnOk result (places.new ≡ spec.with_places places.old (spec.name_of_call e.now)) }
 {
-    match &e.kind {
+    match e.kind.get() {
         ExprKind::Read(_) => places.add(e.span.from),
         _ => Ok(()),
     }

@@ -67,7 +67,7 @@ fn life_names(alloc: Global, names: &Names, stmts: &[Stmt]) -> Result<Distinct, 
 fn add_stmt(life: &mut Distinct, names: &Names, stmt: &Stmt) -> Result<(), NoMemory>
     ensures { OnOk result (life.new ≡ with_names life.old (spec.life_of names.now stmt.now)) }
 {
-    match &stmt.kind {
+    match stmt.kind.get() {
         StmtKind::Import(import) => add_import(life, names, import),
         _ => Ok(()),
     }

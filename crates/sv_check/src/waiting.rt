@@ -56,7 +56,7 @@ fn reads_of(alloc: Global, stmts: &[Stmt]) -> Result<Vec<Reads>, NoMemory>
 fn is_reactive(stmt: &Stmt) -> bool
     ensures { result ≡ spec.is_reactive stmt.now }
 {
-    matches!(stmt.kind, StmtKind::React(_))
+    matches!(stmt.kind.get(), StmtKind::React(_))
 }
 
 // The place of the first statement of a cycle.

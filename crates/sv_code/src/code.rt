@@ -1,4 +1,7 @@
 // Expressions.
+ghost use Rattle.std.specs.Prelude.{◌≡◌, IfOk};
+
+use std::alloc::{AllocError, Global};
 use sv_ast::{AssignOp, Op, Ref};
 use sv_base::{Name, Num, Span, Text};
 use sv_list::Boxed;
@@ -20,7 +23,17 @@ pub type CodeLinks = sv_list::Items<CodeLink>;
 #[derive(Drop)]
 pub struct Code {
     pub span: Span,
-    pub kind: CodeKind,
+    pub kind: Boxed<CodeKind>,
+}
+
+impl Code {
+    /// A code of this form, at this place. An error is want of memory.
+    pub fn new(alloc: Global, span: Span, kind: CodeKind) -> Result<Code, AllocError>
+        ensures { IfOk result (λ made. made ≡ record { span = span; kind = kind }) }
+    {
+        let kind = Boxed::new(alloc, kind)?;
+        Ok(Code { span, kind })
+    }
 }
 
 /// The forms of expressions, as those of `sv_ast::ExprKind`.
@@ -41,7 +54,7 @@ pub enum CodeKind {
     Assign {
         target: Ref,
         op: AssignOp,
-        value: Boxed<Code>,
+        value: Code,
     },
     Bump {
         target: Ref,
@@ -49,26 +62,26 @@ pub enum CodeKind {
         prefix: bool,
     },
     Chain {
-        first: Boxed<Code>,
+        first: Code,
         rest: CodeLinks,
     },
-    Not(Boxed<Code>),
-    Minus(Boxed<Code>),
+    Not(Code),
+    Minus(Code),
     Choose {
-        test: Boxed<Code>,
-        yes: Boxed<Code>,
-        no: Boxed<Code>,
+        test: Code,
+        yes: Code,
+        no: Code,
     },
     Member {
-        of: Boxed<Code>,
+        of: Code,
         word: Name,
     },
     Index {
-        of: Boxed<Code>,
-        at: Boxed<Code>,
+        of: Code,
+        at: Code,
     },
     Call {
-        of: Boxed<Code>,
+        of: Code,
         args: Codes,
     },
 }

@@ -1,5 +1,8 @@
 // Statements, and the functions whose bodies they are.
+ghost use Rattle.std.specs.Prelude.{◌≡◌, IfOk};
+
 use crate::code::Code;
+use std::alloc::{AllocError, Global};
 use sv_ast::{Import, NameList, Named};
 use sv_base::Span;
 use sv_list::Boxed;
@@ -36,7 +39,17 @@ pub struct CodeArm {
 #[derive(Drop)]
 pub struct CodeStmt {
     pub span: Span,
-    pub kind: CodeStmtKind,
+    pub kind: Boxed<CodeStmtKind>,
+}
+
+impl CodeStmt {
+    /// A statement of this form, at this place. An error is want of memory.
+    pub fn new(alloc: Global, span: Span, kind: CodeStmtKind) -> Result<CodeStmt, AllocError>
+        ensures { IfOk result (λ made. made ≡ record { span = span; kind = kind }) }
+    {
+        let kind = Boxed::new(alloc, kind)?;
+        Ok(CodeStmt { span, kind })
+    }
 }
 
 /// The forms of statements, as those of `sv_ast::StmtKind`.
@@ -52,23 +65,23 @@ pub enum CodeStmtKind {
     },
     If {
         arms: CodeArms,
-        last: Option<Boxed<CodeStmt>>,
+        last: Option<CodeStmt>,
     },
     While {
         test: Code,
-        body: Boxed<CodeStmt>,
+        body: CodeStmt,
     },
     For {
-        first: Option<Boxed<CodeStmt>>,
+        first: Option<CodeStmt>,
         test: Option<Code>,
         next: Option<Code>,
-        body: Boxed<CodeStmt>,
+        body: CodeStmt,
     },
     Each {
         name: Named,
         fixed: bool,
         list: Code,
-        body: Boxed<CodeStmt>,
+        body: CodeStmt,
     },
     Break,
     Continue,
@@ -76,7 +89,7 @@ pub enum CodeStmtKind {
     Eval(Code),
     Import(Import),
     Export(CodeDecls),
-    React(Boxed<CodeStmt>),
+    React(CodeStmt),
     /// A function, by its number among the functions of the program.
     Function {
         name: Named,

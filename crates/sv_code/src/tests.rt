@@ -2,7 +2,6 @@
 use crate::{Code, CodeKind, Functions, Program, ProgramFiles};
 use std::test::Fail;
 use sv_base::{Names, Span};
-use sv_list::Boxed;
 
 #[test]
 fn a_program_tells_what_is_not_built(rt: HostRuntime) -> Result<(), Fail> {
@@ -26,14 +25,11 @@ fn code_holds_what_was_put_in(rt: HostRuntime) -> Result<(), Fail> {
         from: 0,
         to: 7,
     };
-    let arrow = Code {
-        span,
-        kind: CodeKind::Arrow(2),
-    };
-    let code = CodeKind::Not(Boxed::new(rt.alloc(), arrow)?);
-    let CodeKind::Not(of) = &code else {
+    let arrow = Code::new(rt.alloc(), span, CodeKind::Arrow(2))?;
+    let code = Code::new(rt.alloc(), span, CodeKind::Not(arrow))?;
+    let CodeKind::Not(of) = code.kind.get() else {
         return Err("no negation".into());
     };
-    assert_eq!(rt; matches!(of.get().kind, CodeKind::Arrow(2)), true);
+    assert_eq!(rt; matches!(of.kind.get(), CodeKind::Arrow(2)), true);
     Ok(())
 }

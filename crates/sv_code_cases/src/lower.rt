@@ -1,14 +1,11 @@
 // The code of scripts and expressions.
-use std::alloc::Global;
+use std::alloc::{AllocError, Global};
 use std::test::Fail;
 use sv_ast::{
     Body, Expr, ExprKind, Import, NameList, Named, Ref, Spec, Specs, Stmt, StmtKind, Stmts,
 };
 use sv_base::{Name, NoMemory, Num, Span, Text};
-use sv_code::{
-    Code, CodeKind, CodeStmt, CodeStmtKind, CodeStmts, Function, FunctionBody, Functions,
-};
-use sv_list::Boxed;
+use sv_code::{CodeKind, CodeStmt, CodeStmtKind, CodeStmts, Function, FunctionBody, Functions};
 use sv_lower::{lower_expr, lower_stmts};
 
 const A: Name = Name(0);
@@ -35,8 +32,8 @@ fn named(name: Name) -> Named {
     Named { name, span: at(0) }
 }
 
-fn expr(kind: ExprKind) -> Expr {
-    Expr { span: at(0), kind }
+fn expr(alloc: Global, kind: ExprKind) -> Result<Expr, AllocError> {
+    Expr::new(alloc, at(0), kind)
 }
 
 fn params(alloc: Global, name: Name) -> Result<NameList, NoMemory> {
@@ -48,17 +45,15 @@ fn params(alloc: Global, name: Name) -> Result<NameList, NoMemory> {
 // `name => value`.
 fn arrow(alloc: Global, name: Name, value: Expr) -> Result<Expr, NoMemory> {
     let params = params(alloc, name)?;
-    let body = Body::Value(Boxed::new(alloc, value)?);
-    Ok(expr(ExprKind::Arrow { params, body }))
+    let body = Body::Value(value);
+    Ok(expr(alloc, ExprKind::Arrow { params, body })?)
 }
 
 // `function f(a) { return a }`.
 fn function(alloc: Global) -> Result<StmtKind, NoMemory> {
     let mut body = Stmts::new(alloc);
-    body.push(Stmt {
-        span: at(16),
-        kind: StmtKind::Return(Some(expr(ExprKind::Read(Ref::Plain(A))))),
-    })?;
+    let read = expr(alloc, ExprKind::Read(Ref::Plain(A)))?;
+    body.push(Stmt::new(alloc, at(16), StmtKind::Return(Some(read)))?)?;
     Ok(StmtKind::Func {
         name: named(F),
         exported: false,
@@ -84,7 +79,7 @@ fn import(alloc: Global) -> Result<StmtKind, NoMemory> {
 // A script of one statement.
 fn script(alloc: Global, kind: StmtKind) -> Result<Stmts, NoMemory> {
     let mut stmts = Stmts::new(alloc);
-    stmts.push(Stmt { span: at(7), kind })?;
+    stmts.push(Stmt::new(alloc, at(7), kind)?)?;
     Ok(stmts)
 }
 
@@ -97,7 +92,7 @@ fn takes(function: &Function, name: Name) -> bool {
 // The one expression of an arrow.
 fn value(function: &Function) -> Option<&CodeKind> {
     match &function.body {
-        FunctionBody::Value(code) => Some(&code.kind),
+        FunctionBody::Value(code) => Some(code.kind.get()),
         FunctionBody::Block(_) => None,
     }
 }
@@ -114,10 +109,10 @@ fn gives_num(function: &Function, name: Name, num: Num) -> bool {
 
 // Whether a statement returns what a name stands for.
 fn returns(stmt: &CodeStmt, name: Name) -> bool {
-    matches!(
-        &stmt.kind,
-        CodeStmtKind::Return(Some(Code { kind: CodeKind::Read(Ref::Plain(read)), .. })) if *read == name
-    )
+    let CodeStmtKind::Return(Some(value)) = stmt.kind.get() else {
+        return false;
+    };
+    matches!(value.kind.get(), CodeKind::Read(Ref::Plain(read)) if *read == name)
 }
 
 // Whether a function has one parameter of a name, and returns it by its one statement.
@@ -132,7 +127,7 @@ fn returns_parameter(function: &Function, name: Name) -> bool {
 
 // Whether a statement declares a function that isn't exported.
 fn declares(stmt: &CodeStmt, wanted: Name, function: u32) -> bool {
-    match &stmt.kind {
+    match stmt.kind.get() {
         CodeStmtKind::Function {
             name,
             exported: false,
@@ -144,7 +139,7 @@ fn declares(stmt: &CodeStmt, wanted: Name, function: u32) -> bool {
 
 // Whether a statement is `import { b as c } from './m.js'`.
 fn imports(stmt: &CodeStmt) -> bool {
-    let CodeStmtKind::Import(import) = &stmt.kind else {
+    let CodeStmtKind::Import(import) = stmt.kind.get() else {
         return false;
     };
     if import.from.as_str() != "./m.js" || import.whole.is_some() || import.specs.len() != 1 {
@@ -156,7 +151,7 @@ fn imports(stmt: &CodeStmt) -> bool {
 
 // `x => y => 0`.
 fn nested_arrows(alloc: Global, zero: Num) -> Result<Expr, NoMemory> {
-    let inner = arrow(alloc, Y, expr(ExprKind::Num(zero)))?;
+    let inner = arrow(alloc, Y, expr(alloc, ExprKind::Num(zero))?)?;
     arrow(alloc, X, inner)
 }
 
@@ -169,7 +164,7 @@ fn are_nested(functions: &[Function], zero: Num) -> bool {
 fn is_numbered(alloc: Global, outer: &Expr, zero: Num) -> Result<bool, NoMemory> {
     let mut functions = Functions::new(alloc);
     let code = lower_expr(alloc, &mut functions, outer)?;
-    let is_outer = code.span == at(0) && matches!(code.kind, CodeKind::Arrow(1));
+    let is_outer = code.span == at(0) && matches!(code.kind.get(), CodeKind::Arrow(1));
     Ok(is_outer && are_nested(functions.as_slice(), zero))
 }
 

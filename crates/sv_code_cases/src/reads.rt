@@ -34,22 +34,20 @@ const SPAN: Span = Span {
     to: 0,
 };
 
-fn part(reads: Reading) -> Part {
-    Part {
+// A part that looks at these cells and locals.
+fn part(alloc: Global, cells: &[u8], locals: &[Name]) -> Result<Part, NoMemory> {
+    Ok(Part {
         span: SPAN,
-        code: Code {
-            span: SPAN,
-            kind: CodeKind::Undefined,
-        },
-        reads,
-    }
+        code: Code::new(alloc, SPAN, CodeKind::Undefined)?,
+        reads: looks_at(alloc, cells, locals)?,
+    })
 }
 
 // The nodes `{v}{w}..`.
 fn shows(alloc: Global, names: &[Name]) -> Result<Frags, NoMemory> {
     let mut nodes = Frags::new(alloc);
     for name in names {
-        nodes.push(Frag::Show(part(looks_at(alloc, &[], &[*name])?)))?;
+        nodes.push(Frag::Show(part(alloc, &[], &[*name])?))?;
     }
     Ok(nodes)
 }
@@ -69,13 +67,13 @@ fn keyed_rows(alloc: Global, list: Part, key: Part) -> Result<Frag, NoMemory> {
 
 // `{#each .. as x (x)}{x}{y}{/each}`.
 fn rows_of(alloc: Global, list: Part) -> Result<Frag, NoMemory> {
-    let key = part(looks_at(alloc, &[], &[X])?);
+    let key = part(alloc, &[], &[X])?;
     keyed_rows(alloc, list, key)
 }
 
 // `{#each a as x (x)}{x}{y}{/each}`, where `a` is the cell 1.
 fn rows(alloc: Global) -> Result<Frag, NoMemory> {
-    rows_of(alloc, part(looks_at(alloc, &[1], &[])?))
+    rows_of(alloc, part(alloc, &[1], &[])?)
 }
 
 // `<slot>`, where the owner's view is the cell 3.
@@ -144,7 +142,7 @@ fn names_look_at_cells_that_no_local_hides(rt: HostRuntime) -> Result<(), Fail> 
 // A slot, what shows the cell 1, and rows.
 fn push_content(alloc: Global, content: &mut Frags) -> Result<(), NoMemory> {
     content.push(slot(alloc)?)?;
-    content.push(Frag::Show(part(looks_at(alloc, &[1], &[])?)))?;
+    content.push(Frag::Show(part(alloc, &[1], &[])?))?;
     Ok(content.push(rows(alloc)?)?)
 }
 

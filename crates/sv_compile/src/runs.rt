@@ -76,7 +76,7 @@ fn reactives<'a>(alloc: Global, stmts: &'a [Stmt]) -> Result<Vec<Reactive<'a>>, 
 fn is_reactive(stmt: &Stmt) -> bool
     ensures { result ≡ spec_is_reactive stmt.now }
 {
-    matches!(stmt.kind, StmtKind::React(_))
+    matches!(stmt.kind.get(), StmtKind::React(_))
 }
 
 // The place of a statement, where there is a number below 2^32 for it.
@@ -103,7 +103,7 @@ pub(crate) fn prop_names(alloc: Global, stmts: &[Stmt]) -> Result<RefList, NoMem
 fn add_props(names: &mut RefList, stmt: &Stmt) -> Result<(), NoMemory>
     ensures { OnOk result (names.new ≡ names.old ++ spec_prop_names stmt.now) }
 {
-    match &stmt.kind {
+    match stmt.kind.get() {
         StmtKind::Export(decls) => add_decls(names, decls.as_slice()),
         _ => Ok(()),
     }

@@ -58,7 +58,7 @@ fn has_dollar(cells: &[Ref]) -> bool
 fn has_braces(stmts: &[CodeStmt]) -> bool
     ensures { result ≡ spec.script stmts.now }
 {
-    stmts.iter().any(|stmt| is_braced(&stmt.kind))
+    stmts.iter().any(|stmt| is_braced(stmt.kind.get()))
 }
 
 fn is_braced(kind: &CodeStmtKind) -> bool

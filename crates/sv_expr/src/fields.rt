@@ -68,7 +68,7 @@ impl<
         if same_lexeme(first(past(tokens.text())), Lexeme::Colon) {
             self.worded_field(tokens)
         } else {
-            shorthand(tokens)
+            shorthand(self.alloc, tokens)
         }
     }
 
@@ -98,9 +98,6 @@ impl<
             ensures { Reads (spec.field real self.entry.now.room (B.readers self.entry.now.room) tokens.old) result tokens.new }
         { self.field(tokens) };
         let found = listed(self.alloc, tokens, Lexeme::RBrace, field)?;
-        Ok(Expr {
-            span: tokens.span_from(from),
-            kind: ExprKind::Obj(found),
-        })
+        Ok(Expr::new(self.alloc, tokens.span_from(from), ExprKind::Obj(found))?)
     }
 }

@@ -94,10 +94,7 @@ impl<
             ensures { Reads (spec.entry real self.entry.now.room (B.readers self.entry.now.room) tokens.old) result tokens.new }
         { self.entry(tokens) };
         let found = listed(self.alloc, tokens, Lexeme::RBracket, entry)?;
-        Ok(Expr {
-            span: tokens.span_from(from),
-            kind: ExprKind::List(found),
-        })
+        Ok(Expr::new(self.alloc, tokens.span_from(from), ExprKind::List(found))?)
     }
 
     fn parts(&self, tokens: &mut Tokens<'_>) -> Result<Exprs, ParseError>
@@ -107,7 +104,7 @@ impl<
         let mut found = Items::new(self.alloc);
         for _turn in 0..tokens.left() {
             let (run, is_hole) = tokens.run()?;
-            push_run(&mut found, run)?;
+            push_run(self.alloc, &mut found, run)?;
             if !is_hole {
                 return Ok(found);
             }
@@ -125,10 +122,8 @@ impl<
         let from = tokens.start();
         tokens.take();
         let found = self.parts(tokens)?;
-        Ok(Expr {
-            span: tokens.span_from(from),
-            kind: ExprKind::Template(found),
-        })
+        let kind = ExprKind::Template(found);
+        Ok(Expr::new(self.alloc, tokens.span_from(from), kind)?)
     }
 
     #[tactic(auto, unfolding(crate::specs::Rules::primary))]
@@ -137,13 +132,13 @@ impl<
         ensures { Reads (spec.primary real self.now.room (B.readers self.now.room) tokens.old) result tokens.new }
     {
         match tokens.peek() {
-            Lexeme::Numeral => number(tokens),
-            Lexeme::Quoted => quoted(tokens),
+            Lexeme::Numeral => number(self.alloc, tokens),
+            Lexeme::Quoted => quoted(self.alloc, tokens),
             Lexeme::Backquote => self.template(tokens),
             Lexeme::LParen => self.bracketed(tokens),
             Lexeme::LBracket => self.list(tokens),
             Lexeme::LBrace => self.object(tokens),
-            _ => constant(tokens),
+            _ => constant(self.alloc, tokens),
         }
     }
 }
@@ -160,15 +155,12 @@ fn entry_of(is_spread: bool, value: Expr) -> Entry
 }
 
 // Puts a literal run of a template behind its parts, if it is not empty.
-fn push_run(parts: &mut Exprs, run: Run) -> Result<(), AllocError>
+fn push_run(alloc: Global, parts: &mut Exprs, run: Run) -> Result<(), AllocError>
     ensures { OnOk result (parts.new ≡ with_run run parts.old) }
 {
     let Run { text, span } = run;
     if text.as_str().is_empty() {
         return Ok(());
     }
-    parts.push(Expr {
-        span,
-        kind: ExprKind::Text(text),
-    })
+    parts.push(Expr::new(alloc, span, ExprKind::Text(text))?)
 }

@@ -6,6 +6,7 @@ ghost use Rattle.sv_lex.specs.Reader.{Reads};
 
 use crate::operators::literal;
 use crate::quotients::is_quotient;
+use std::alloc::Global;
 use sv_ast::{Expr, ExprKind, Field, Kind, ParseError, Ref, Refused};
 use sv_lex::{Lexeme, Tokens};
 
@@ -22,43 +23,34 @@ pub fn target(tokens: &mut Tokens<'_>) -> Result<Ref, ParseError>
 
 /// A numeral.
 #[tactic(auto, unfolding(crate::specs::Rules::number))]
-pub fn number(tokens: &mut Tokens<'_>) -> Result<Expr, ParseError>
+pub fn number(alloc: Global, tokens: &mut Tokens<'_>) -> Result<Expr, ParseError>
     ensures { Reads (spec.number real tokens.old) result tokens.new }
 {
     let from = tokens.start();
     let value = tokens.numeral()?;
-    Ok(Expr {
-        span: tokens.span_from(from),
-        kind: ExprKind::Num(value),
-    })
+    Ok(Expr::new(alloc, tokens.span_from(from), ExprKind::Num(value))?)
 }
 
 /// A string.
 #[tactic(auto, unfolding(crate::specs::Rules::quoted))]
-pub fn quoted(tokens: &mut Tokens<'_>) -> Result<Expr, ParseError>
+pub fn quoted(alloc: Global, tokens: &mut Tokens<'_>) -> Result<Expr, ParseError>
     ensures { Reads (spec.quoted tokens.old) result tokens.new }
 {
     let from = tokens.start();
     let text = tokens.string()?;
-    Ok(Expr {
-        span: tokens.span_from(from),
-        kind: ExprKind::Text(text),
-    })
+    Ok(Expr::new(alloc, tokens.span_from(from), ExprKind::Text(text))?)
 }
 
 /// A word that is a value. Another token is refused.
 #[tactic(auto, unfolding(crate::specs::Rules::constant))]
-pub fn constant(tokens: &mut Tokens<'_>) -> Result<Expr, ParseError>
+pub fn constant(alloc: Global, tokens: &mut Tokens<'_>) -> Result<Expr, ParseError>
     ensures { Reads (spec.constant tokens.old) result tokens.new }
 {
     let from = tokens.start();
     match literal(tokens.peek()) {
         Some(kind) => {
             tokens.take();
-            Ok(Expr {
-                span: tokens.span_from(from),
-                kind,
-            })
+            Ok(Expr::new(alloc, tokens.span_from(from), kind)?)
         }
         None => Err(tokens.refuse(Kind::Syntax)),
     }
@@ -66,16 +58,14 @@ pub fn constant(tokens: &mut Tokens<'_>) -> Result<Expr, ParseError>
 
 /// A field that is a name alone, which is read.
 #[tactic(auto, unfolding(crate::specs::Rules::shorthand))]
-pub fn shorthand(tokens: &mut Tokens<'_>) -> Result<Field, ParseError>
+pub fn shorthand(alloc: Global, tokens: &mut Tokens<'_>) -> Result<Field, ParseError>
     ensures { Reads (spec.shorthand tokens.old) result tokens.new }
 {
     let from = tokens.start();
     let key = tokens.word_text()?;
     let found = tokens.name()?;
-    let value = Expr {
-        span: tokens.span_from(from),
-        kind: ExprKind::Read(Ref::Plain(found.name)),
-    };
+    let read = ExprKind::Read(Ref::Plain(found.name));
+    let value = Expr::new(alloc, tokens.span_from(from), read)?;
     Ok(Field::Pair { key, value })
 }
 
@@ -85,7 +75,6 @@ pub fn undivided(tokens: &Tokens<'_>, of: Expr) -> Result<Expr, ParseError>
 {
     let at = of.span;
     if is_quotient(&of) {
-        drop(of);
         return Err(ParseError::Refused(Refused {
             kind: Kind::Syntax,
             at,

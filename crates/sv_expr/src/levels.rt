@@ -16,7 +16,7 @@ use std::alloc::{AllocError, Global};
 use sv_ast::{Expr, ExprKind, Kind, Link, Links, ParseError, Stmts};
 use sv_base::Span;
 use sv_lex::{Lexeme, Tokens, same_lexeme};
-use sv_list::{Boxed, Items};
+use sv_list::Items;
 
 impl<
     B: Enclosed,
@@ -30,11 +30,8 @@ impl<
     {
         let from = tokens.start();
         tokens.take();
-        let operand = Boxed::new(self.alloc, self.enclosed(tokens, Form::Operand)?)?;
-        Ok(Expr {
-            span: tokens.span_from(from),
-            kind: ExprKind::Not(operand),
-        })
+        let operand = self.enclosed(tokens, Form::Operand)?;
+        Ok(Expr::new(self.alloc, tokens.span_from(from), ExprKind::Not(operand))?)
     }
 
     #[tactic(auto, unfolding(crate::specs::Rules::minus))]
@@ -44,11 +41,8 @@ impl<
     {
         let from = tokens.start();
         tokens.take();
-        let operand = Boxed::new(self.alloc, self.enclosed(tokens, Form::Operand)?)?;
-        Ok(Expr {
-            span: tokens.span_from(from),
-            kind: ExprKind::Minus(operand),
-        })
+        let operand = self.enclosed(tokens, Form::Operand)?;
+        Ok(Expr::new(self.alloc, tokens.span_from(from), ExprKind::Minus(operand))?)
     }
 
     // `++` or `--` before its target.
@@ -60,14 +54,9 @@ impl<
         tokens.take();
         self.opened(tokens)?;
         let target = target(tokens)?;
-        Ok(Expr {
-            span: tokens.span_from(from),
-            kind: ExprKind::Bump {
-                target,
-                up,
-                prefix: true,
-            },
-        })
+        let prefix = true;
+        let kind = ExprKind::Bump { target, up, prefix };
+        Ok(Expr::new(self.alloc, tokens.span_from(from), kind)?)
     }
 
     #[tactic(auto, unfolding(crate::specs::Rules::prefix))]
@@ -198,13 +187,8 @@ fn chain(alloc: Global, span: Span, first: Expr, found: Links) -> Result<Expr, A
     if found.is_empty() {
         return Ok(first);
     }
-    Ok(Expr {
-        span,
-        kind: ExprKind::Chain {
-            first: Boxed::new(alloc, first)?,
-            rest: found,
-        },
-    })
+    let rest = found;
+    Expr::new(alloc, span, ExprKind::Chain { first, rest })
 }
 
 // The expression, if no operator of the group comes.

@@ -34,7 +34,7 @@ fn some_divides(links: &[Link]) -> bool
 pub fn is_quotient(of: &Expr) -> bool
     ensures { result ≡ spec.is_quotient of.now }
 {
-    match &of.kind {
+    match of.kind.get() {
         ExprKind::Chain { rest, .. } => some_divides(rest.as_slice()),
         _ => false,
     }
@@ -49,7 +49,7 @@ fn some_quotient(args: &[Expr]) -> bool
 fn is_null(of: &Expr) -> bool
     ensures { result ≡ spec.is_null of.now }
 {
-    matches!(&of.kind, ExprKind::Null)
+    matches!(of.kind.get(), ExprKind::Null)
 }
 
 /// What stands to the left of the first operator, which is `first`.
@@ -94,7 +94,7 @@ pub fn fits(left: Left, op: Op, right: &Expr) -> bool
 fn is_math(of: &Expr, tokens: &Tokens<'_>) -> bool
     ensures { result ≡ spec.is_math of.now tokens.now }
 {
-    match &of.kind {
+    match of.kind.get() {
         ExprKind::Read(Ref::Plain(name)) => tokens.is_named(*name, "Math"),
         _ => false,
     }
@@ -104,9 +104,9 @@ fn is_math(of: &Expr, tokens: &Tokens<'_>) -> bool
 pub fn rounds(of: &Expr, tokens: &Tokens<'_>) -> bool
     ensures { result ≡ spec.rounds of.now tokens.now }
 {
-    match &of.kind {
+    match of.kind.get() {
         ExprKind::Member { of, word } => {
-            is_math(of.get(), tokens)
+            is_math(of, tokens)
                 && (tokens.is_named(*word, "floor") || tokens.is_named(*word, "trunc"))
         }
         _ => false,

@@ -15,7 +15,6 @@ use crate::quotients::{argument, is_quotient, is_single, rounds};
 use std::alloc::Global;
 use sv_ast::{Expr, ExprKind, Kind, ParseError, Stmts};
 use sv_lex::{Lexeme, Tokens};
-use sv_list::Boxed;
 
 impl<
     B: Enclosed,
@@ -28,13 +27,8 @@ impl<
     {
         tokens.take();
         let word = tokens.word()?.name;
-        Ok(Expr {
-            span: tokens.span_from(from),
-            kind: ExprKind::Member {
-                of: Boxed::new(self.alloc, of)?,
-                word,
-            },
-        })
+        let kind = ExprKind::Member { of, word };
+        Ok(Expr::new(self.alloc, tokens.span_from(from), kind)?)
     }
 
     #[tactic(auto, unfolding(crate::specs::Rules::index))]
@@ -45,13 +39,8 @@ impl<
         tokens.take();
         let at = self.enclosed(tokens, Form::Whole)?;
         tokens.expect(Lexeme::RBracket)?;
-        Ok(Expr {
-            span: tokens.span_from(from),
-            kind: ExprKind::Index {
-                of: Boxed::new(self.alloc, of)?,
-                at: Boxed::new(self.alloc, at)?,
-            },
-        })
+        let kind = ExprKind::Index { of, at };
+        Ok(Expr::new(self.alloc, tokens.span_from(from), kind)?)
     }
 
     #[tactic(auto, unfolding(crate::specs::Rules::call))]
@@ -71,13 +60,8 @@ impl<
         if !is_single(args.as_slice()) {
             return Err(refusal);
         }
-        Ok(Expr {
-            span: tokens.span_from(from),
-            kind: ExprKind::Call {
-                of: Boxed::new(self.alloc, of)?,
-                args,
-            },
-        })
+        let kind = ExprKind::Call { of, args };
+        Ok(Expr::new(self.alloc, tokens.span_from(from), kind)?)
     }
 
     #[tactic(auto, unfolding(crate::specs::Rules::suffix))]
@@ -130,20 +114,12 @@ impl<
         match bump_behind(tokens) {
             Some(up) => {
                 tokens.take();
-                Ok(Expr {
-                    span: tokens.span_from(from),
-                    kind: ExprKind::Bump {
-                        target,
-                        up,
-                        prefix: false,
-                    },
-                })
+                let prefix = false;
+                let kind = ExprKind::Bump { target, up, prefix };
+                Ok(Expr::new(self.alloc, tokens.span_from(from), kind)?)
             }
             None => {
-                let read = Expr {
-                    span: tokens.span_from(from),
-                    kind: ExprKind::Read(target),
-                };
+                let read = Expr::new(self.alloc, tokens.span_from(from), ExprKind::Read(target))?;
                 self.suffixes(tokens, from, LINK_LIMIT, read)
             }
         }

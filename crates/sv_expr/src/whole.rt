@@ -16,7 +16,6 @@ use crate::quotients::is_quotient;
 use std::alloc::Global;
 use sv_ast::{AssignOp, Body, Expr, ExprKind, Kind, ParseError, Stmts};
 use sv_lex::{Lexeme, Tokens, same_lexeme};
-use sv_list::Boxed;
 
 impl<
     B: Enclosed,
@@ -42,14 +41,11 @@ impl<
             return Err(tokens.refuse(Kind::Syntax));
         }
         tokens.take();
-        let test = Boxed::new(self.alloc, test)?;
-        let yes = Boxed::new(self.alloc, self.enclosed(tokens, Form::Whole)?)?;
+        let yes = self.enclosed(tokens, Form::Whole)?;
         tokens.expect(Lexeme::Colon)?;
-        let no = Boxed::new(self.alloc, self.enclosed(tokens, Form::Whole)?)?;
-        Ok(Expr {
-            span: tokens.span_from(from),
-            kind: ExprKind::Choose { test, yes, no },
-        })
+        let no = self.enclosed(tokens, Form::Whole)?;
+        let kind = ExprKind::Choose { test, yes, no };
+        Ok(Expr::new(self.alloc, tokens.span_from(from), kind)?)
     }
 
     #[tactic(auto, unfolding(crate::specs::Rules::condition))]
@@ -74,11 +70,9 @@ impl<
         let from = tokens.start();
         let target = target(tokens)?;
         tokens.take();
-        let value = Boxed::new(self.alloc, self.enclosed(tokens, Form::Whole)?)?;
-        Ok(Expr {
-            span: tokens.span_from(from),
-            kind: ExprKind::Assign { target, op, value },
-        })
+        let value = self.enclosed(tokens, Form::Whole)?;
+        let kind = ExprKind::Assign { target, op, value };
+        Ok(Expr::new(self.alloc, tokens.span_from(from), kind)?)
     }
 
     // The body of an arrow. One that begins with a brace is a block.
@@ -91,7 +85,7 @@ impl<
             Lexeme::LBrace => Ok(Body::Block(self.block(tokens)?)),
             _ => {
                 let value = self.enclosed(tokens, Form::Whole)?;
-                Ok(Body::Value(Boxed::new(self.alloc, value)?))
+                Ok(Body::Value(value))
             }
         }
     }
@@ -105,10 +99,8 @@ impl<
         let params = parameters(self.alloc, tokens)?;
         tokens.expect(Lexeme::Arrow)?;
         let body = self.body(tokens)?;
-        Ok(Expr {
-            span: tokens.span_from(from),
-            kind: ExprKind::Arrow { params, body },
-        })
+        let kind = ExprKind::Arrow { params, body };
+        Ok(Expr::new(self.alloc, tokens.span_from(from), kind)?)
     }
 
     // An expression, which may be a quotient.

@@ -220,7 +220,7 @@ fn add_let_parts(lets: &mut LetNames, prop: Name, parts: &[AttrPart]) -> Result<
 {
     for part in parts {
         if let AttrPart::Show { value, .. } = part {
-            if let ExprKind::Read(Ref::Plain(local)) = &value.kind {
+            if let ExprKind::Read(Ref::Plain(local)) = value.kind.get() {
                 lets.push(LetName {
                     prop,
                     local: *local,

@@ -89,10 +89,7 @@ pub(crate) fn named_part(
     let reads = reading(alloc, around.cells, locals, std::slice::from_ref(&name))?;
     Ok(Part {
         span,
-        code: Code {
-            span,
-            kind: CodeKind::Read(name),
-        },
+        code: Code::new(alloc, span, CodeKind::Read(name))?,
         reads,
     })
 }

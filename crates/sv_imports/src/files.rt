@@ -46,7 +46,7 @@ pub(crate) fn target(files: &[SourceFile], stmt: &Stmt) -> Option<usize>
     ensures file { result ≡ spec.target files.now stmt.now }
     ensures within { IfSome result (λ file. file < length files.now) }
 {
-    match &stmt.kind {
+    match stmt.kind.get() {
         StmtKind::Import(import) => file_named(files, import.from.as_str()),
         _ => None,
     }

@@ -41,7 +41,7 @@ fn add_all(given: &mut Distinct, stmts: &[Stmt]) -> Result<(), NoMemory>
 fn add_exported(given: &mut Distinct, stmt: &Stmt) -> Result<(), NoMemory>
     ensures { OnOk result (given.new ≡ with_names given.old (spec.exported stmt.now)) }
 {
-    match &stmt.kind {
+    match stmt.kind.get() {
         StmtKind::Const {
             decls,
             exported: true,

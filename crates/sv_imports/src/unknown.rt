@@ -64,7 +64,7 @@ fn find_in_stmt(
 ) -> Result<(), NoMemory>
     ensures { OnOk result (places.new ≡ places.old ++ spec.unknown_of names.now files.now given.now stmt.now) }
 {
-    match &stmt.kind {
+    match stmt.kind.get() {
         StmtKind::Import(import) => find_in_import(places, names, files, given, import),
         _ => Ok(()),
     }

@@ -29,7 +29,7 @@ fn file_named(from: &str) -> Option<&str>
 fn file_of(stmt: &Stmt) -> Option<&str>
     ensures { MatchOption result (spec.file_of stmt.now ≡ None) (λ name. spec.file_of stmt.now ≡ Some name.now) }
 {
-    match &stmt.kind {
+    match stmt.kind.get() {
         StmtKind::Import(import) => file_named(import.from.as_str()),
         _ => None,
     }

@@ -10,7 +10,6 @@ use std::alloc::Global;
 use sv_ast::{Body, Entry, Expr, ExprKind, Field, Link, Named};
 use sv_base::NoMemory;
 use sv_code::{Code, CodeField, CodeItem, CodeKind, CodeLink, Function, FunctionBody, Functions};
-use sv_list::Boxed;
 
 /// The code of an expression. Each arrow in it is put behind the functions that there are, and becomes its number: an arrow inside another
 /// comes before it. `NoMemory` comes at want of memory, or of a number below 2^32 for a function; some functions may have been added then.
@@ -19,11 +18,8 @@ pub fn lower_expr(alloc: Global, functions: &mut Functions, of: &Expr) -> Result
     ensures code { IfOk result (λ code. code ≡ (spec.of_expr of.now functions.old).0) }
     ensures functions { OnOk result (functions.new ≡ (spec.of_expr of.now functions.old).1) }
 {
-    let kind = lower_kind(alloc, functions, &of.kind)?;
-    Ok(Code {
-        span: of.span,
-        kind,
-    })
+    let kind = lower_kind(alloc, functions, of.kind.get())?;
+    Ok(Code::new(alloc, of.span, kind)?)
 }
 
 #[cycle(lower)]
@@ -66,7 +62,7 @@ fn lower_kind(
         ExprKind::Assign { target, op, value } => Ok(CodeKind::Assign {
             target: *target,
             op: *op,
-            value: lower_boxed(alloc, functions, value)?,
+            value: lower_expr(alloc, functions, value)?,
         }),
         ExprKind::Bump { target, up, prefix } => Ok(CodeKind::Bump {
             target: *target,
@@ -74,46 +70,33 @@ fn lower_kind(
             prefix: *prefix,
         }),
         ExprKind::Chain { first, rest } => {
-            let first = lower_boxed(alloc, functions, first)?;
+            let first = lower_expr(alloc, functions, first)?;
             let rest = lower_links(alloc, functions, rest.as_slice())?;
             Ok(CodeKind::Chain { first, rest })
         }
-        ExprKind::Not(of) => Ok(CodeKind::Not(lower_boxed(alloc, functions, of)?)),
-        ExprKind::Minus(of) => Ok(CodeKind::Minus(lower_boxed(alloc, functions, of)?)),
+        ExprKind::Not(of) => Ok(CodeKind::Not(lower_expr(alloc, functions, of)?)),
+        ExprKind::Minus(of) => Ok(CodeKind::Minus(lower_expr(alloc, functions, of)?)),
         ExprKind::Choose { test, yes, no } => {
-            let test = lower_boxed(alloc, functions, test)?;
-            let yes = lower_boxed(alloc, functions, yes)?;
-            let no = lower_boxed(alloc, functions, no)?;
+            let test = lower_expr(alloc, functions, test)?;
+            let yes = lower_expr(alloc, functions, yes)?;
+            let no = lower_expr(alloc, functions, no)?;
             Ok(CodeKind::Choose { test, yes, no })
         }
         ExprKind::Member { of, word } => Ok(CodeKind::Member {
-            of: lower_boxed(alloc, functions, of)?,
+            of: lower_expr(alloc, functions, of)?,
             word: *word,
         }),
         ExprKind::Index { of, at } => {
-            let of = lower_boxed(alloc, functions, of)?;
-            let at = lower_boxed(alloc, functions, at)?;
+            let of = lower_expr(alloc, functions, of)?;
+            let at = lower_expr(alloc, functions, at)?;
             Ok(CodeKind::Index { of, at })
         }
         ExprKind::Call { of, args } => {
-            let of = lower_boxed(alloc, functions, of)?;
+            let of = lower_expr(alloc, functions, of)?;
             let args = lower_exprs(alloc, functions, args.as_slice())?;
             Ok(CodeKind::Call { of, args })
         }
     }
-}
-
-#[cycle(lower)]
-fn lower_boxed(
-    alloc: Global,
-    functions: &mut Functions,
-    of: &Boxed<Expr>,
-) -> Result<Boxed<Code>, NoMemory>
-    ensures code { IfOk result (λ code. code ≡ (spec.of_expr of.now functions.old).0) }
-    ensures functions { OnOk result (functions.new ≡ (spec.of_expr of.now functions.old).1) }
-{
-    let code = lower_expr(alloc, functions, of.get())?;
-    Ok(Boxed::new(alloc, code)?)
 }
 
 /// The code of an expression that may be absent.
@@ -210,7 +193,7 @@ fn lower_body(
     ensures functions { OnOk result (functions.new ≡ (spec.of_body body.now functions.old).1) }
 {
     match body {
-        Body::Value(value) => Ok(FunctionBody::Value(lower_expr(alloc, functions, value.get())?)),
+        Body::Value(value) => Ok(FunctionBody::Value(lower_expr(alloc, functions, value)?)),
         Body::Block(stmts) => Ok(FunctionBody::Block(lower_stmts(
             alloc,
             functions,

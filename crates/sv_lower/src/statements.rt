@@ -14,7 +14,6 @@ use sv_code::{
     Code, CodeArm, CodeArms, CodeDecl, CodeDecls, CodeStmt, CodeStmtKind, CodeStmts, Function,
     FunctionBody, Functions,
 };
-use sv_list::Boxed;
 
 /// The code of statements in turn. Each function and each arrow in them is put behind the functions that there are, and becomes its number:
 /// those inside another come before it. `NoMemory` comes at want of memory, or of a number below 2^32 for a function; some functions may
@@ -40,11 +39,8 @@ fn lower_stmt(alloc: Global, functions: &mut Functions, of: &Stmt) -> Result<Cod
     ensures code { IfOk result (λ code. code ≡ (spec.of_stmt of.now functions.old).0) }
     ensures functions { OnOk result (functions.new ≡ (spec.of_stmt of.now functions.old).1) }
 {
-    let kind = lower_stmt_kind(alloc, functions, &of.kind)?;
-    Ok(CodeStmt {
-        span: of.span,
-        kind,
-    })
+    let kind = lower_stmt_kind(alloc, functions, of.kind.get())?;
+    Ok(CodeStmt::new(alloc, of.span, kind)?)
 }
 
 #[cycle(lower)]
@@ -74,11 +70,13 @@ fn lower_stmt_kind(
         }),
         StmtKind::If { arms, last } => {
             let arms = lower_arms(alloc, functions, arms.as_slice())?;
-            lower_else(alloc, functions, last, arms)
+            let last = lower_optional(alloc, functions, last)?;
+            Ok(CodeStmtKind::If { arms, last })
         }
         StmtKind::While { test, body } => {
             let test = lower_expr(alloc, functions, test)?;
-            lower_while(alloc, functions, body, test)
+            let body = lower_stmt(alloc, functions, body)?;
+            Ok(CodeStmtKind::While { test, body })
         }
         StmtKind::For {
             first,
@@ -98,7 +96,13 @@ fn lower_stmt_kind(
             body,
         } => {
             let list = lower_expr(alloc, functions, list)?;
-            lower_each(alloc, functions, body, *name, *fixed, list)
+            let body = lower_stmt(alloc, functions, body)?;
+            Ok(CodeStmtKind::Each {
+                name: *name,
+                fixed: *fixed,
+                list,
+                body,
+            })
         }
         StmtKind::Break => Ok(CodeStmtKind::Break),
         StmtKind::Continue => Ok(CodeStmtKind::Continue),
@@ -110,7 +114,7 @@ fn lower_stmt_kind(
             functions,
             decls.as_slice(),
         )?)),
-        StmtKind::React(of) => Ok(CodeStmtKind::React(lower_turn(alloc, functions, of)?)),
+        StmtKind::React(of) => Ok(CodeStmtKind::React(lower_stmt(alloc, functions, of)?)),
         StmtKind::Func {
             name,
             exported,
@@ -127,50 +131,20 @@ fn lower_stmt_kind(
     }
 }
 
-// An `if` with these branches, and its last `else`.
-#[cycle(lower)]
-fn lower_else(
-    alloc: Global,
-    functions: &mut Functions,
-    last: &Option<Boxed<Stmt>>,
-    arms: CodeArms,
-) -> Result<CodeStmtKind, NoMemory>
-    ensures code { IfOk result (λ code. code ≡ (of_one (stmt_code.If arms) (given (option_map spec.of_stmt last.now)) functions.old).0) }
-    ensures functions { OnOk result (functions.new ≡ (given (option_map spec.of_stmt last.now) functions.old).1) }
-{
-    let last = lower_optional(alloc, functions, last)?;
-    Ok(CodeStmtKind::If { arms, last })
-}
-
-// A `while` with this condition.
-#[cycle(lower)]
-fn lower_while(
-    alloc: Global,
-    functions: &mut Functions,
-    body: &Boxed<Stmt>,
-    test: Code,
-) -> Result<CodeStmtKind, NoMemory>
-    ensures code { IfOk result (λ code. code ≡ (of_one (stmt_code.While test) (spec.of_stmt body.now) functions.old).0) }
-    ensures functions { OnOk result (functions.new ≡ (spec.of_stmt body.now functions.old).1) }
-{
-    let body = lower_turn(alloc, functions, body)?;
-    Ok(CodeStmtKind::While { test, body })
-}
-
 // A `for` with this head.
 #[cycle(lower)]
 fn lower_for(
     alloc: Global,
     functions: &mut Functions,
-    body: &Boxed<Stmt>,
-    first: Option<Boxed<CodeStmt>>,
+    body: &Stmt,
+    first: Option<CodeStmt>,
     test: Option<Code>,
     next: Option<Code>,
 ) -> Result<CodeStmtKind, NoMemory>
     ensures code { IfOk result (λ code. code ≡ (of_one (stmt_code.For first test next) (spec.of_stmt body.now) functions.old).0) }
     ensures functions { OnOk result (functions.new ≡ (spec.of_stmt body.now functions.old).1) }
 {
-    let body = lower_turn(alloc, functions, body)?;
+    let body = lower_stmt(alloc, functions, body)?;
     Ok(CodeStmtKind::For {
         first,
         test,
@@ -179,56 +153,17 @@ fn lower_for(
     })
 }
 
-// A `for` over the items of this list.
-#[cycle(lower)]
-fn lower_each(
-    alloc: Global,
-    functions: &mut Functions,
-    body: &Boxed<Stmt>,
-    name: Named,
-    fixed: bool,
-    list: Code,
-) -> Result<CodeStmtKind, NoMemory>
-    ensures code { IfOk result (λ code. code ≡ (of_one (stmt_code.Each name fixed list) (spec.of_stmt body.now) functions.old).0) }
-    ensures functions { OnOk result (functions.new ≡ (spec.of_stmt body.now functions.old).1) }
-{
-    let body = lower_turn(alloc, functions, body)?;
-    Ok(CodeStmtKind::Each {
-        name,
-        fixed,
-        list,
-        body,
-    })
-}
-
-// The body of a loop, or what stands behind `$:`.
-#[cycle(lower)]
-fn lower_turn(
-    alloc: Global,
-    functions: &mut Functions,
-    of: &Boxed<Stmt>,
-) -> Result<Boxed<CodeStmt>, NoMemory>
-    ensures code { IfOk result (λ code. code ≡ (spec.of_stmt of.now functions.old).0) }
-    ensures functions { OnOk result (functions.new ≡ (spec.of_stmt of.now functions.old).1) }
-{
-    let code = lower_stmt(alloc, functions, of.get())?;
-    Ok(Boxed::new(alloc, code)?)
-}
-
 #[cycle(lower)]
 fn lower_optional(
     alloc: Global,
     functions: &mut Functions,
-    of: &Option<Boxed<Stmt>>,
-) -> Result<Option<Boxed<CodeStmt>>, NoMemory>
+    of: &Option<Stmt>,
+) -> Result<Option<CodeStmt>, NoMemory>
     ensures code { IfOk result (λ code. code ≡ (given (option_map spec.of_stmt of.now) functions.old).0) }
     ensures functions { OnOk result (functions.new ≡ (given (option_map spec.of_stmt of.now) functions.old).1) }
 {
     match of {
-        Some(of) => {
-            let code = lower_stmt(alloc, functions, of.get())?;
-            Ok(Some(Boxed::new(alloc, code)?))
-        }
+        Some(of) => Ok(Some(lower_stmt(alloc, functions, of)?)),
         None => Ok(None),
     }
 }

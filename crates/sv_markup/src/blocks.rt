@@ -14,7 +14,7 @@ use std::alloc::Global;
 use sv_ast::{Branch, Branches, Kind, Markup, Nodes, ParseError};
 use sv_expr::LINK_LIMIT;
 use sv_lex::Source;
-use sv_list::{Boxed, Items};
+use sv_list::Items;
 
 impl<F: Fn(Global, &mut Source<'_>, usize, bool) -> Result<Nodes, ParseError>> Rules<F> {
     // A branch whose condition stands behind so many bytes.
@@ -25,12 +25,9 @@ impl<F: Fn(Global, &mut Source<'_>, usize, bool) -> Result<Nodes, ParseError>> R
         requires room { 2 ≤ self.now.room }
         ensures { Reads (spec.branch_of real self.now.room (inside real self.now.room) len source.old) result source.new }
     {
-        let test = Boxed::new(self.alloc, headed(self.alloc, source, self.room, len)?)?;
+        let test = headed(self.alloc, source, self.room, len)?;
         let body = self.enclosed(source, false)?;
-        Ok(Branch {
-            test: test.into_inner(),
-            body,
-        })
+        Ok(Branch { test, body })
     }
 
     // The branches with conditions.
@@ -94,18 +91,18 @@ impl<F: Fn(Global, &mut Source<'_>, usize, bool) -> Result<Nodes, ParseError>> R
     {
         let from = source.at();
         begun(source, self.room)?;
-        let head = Boxed::new(self.alloc, each_head(self.alloc, source, self.room)?)?;
+        let head = each_head(self.alloc, source, self.room)?;
         let body = self.enclosed(source, false)?;
         let none = self.otherwise(source)?;
         block_end(source, from, "{/each}")?;
-        let Head { list, row } = head.into_inner();
+        let Head { list, row } = head;
         let Row { item, index, key } = row;
         Ok(Markup::Each {
             span: source.span_from(from),
-            list: list.into_inner(),
+            list,
             item,
             index,
-            key: key.map(Boxed::into_inner),
+            key,
             body,
             none,
         })
@@ -120,12 +117,12 @@ impl<F: Fn(Global, &mut Source<'_>, usize, bool) -> Result<Nodes, ParseError>> R
     {
         let from = source.at();
         begun(source, self.room)?;
-        let value = Boxed::new(self.alloc, headed(self.alloc, source, self.room, 5)?)?;
+        let value = headed(self.alloc, source, self.room, 5)?;
         let body = self.enclosed(source, false)?;
         block_end(source, from, "{/key}")?;
         Ok(Markup::Key {
             span: source.span_from(from),
-            value: value.into_inner(),
+            value,
             body,
         })
     }

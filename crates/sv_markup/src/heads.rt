@@ -7,7 +7,6 @@ ghost use Rattle.sv_markup.specs.Rules as spec;
 use std::alloc::Global;
 use sv_ast::{Expr, Kind, Named, ParseError};
 use sv_lex::{Lexeme, Source, Tokens};
-use sv_list::Boxed;
 use sv_script::expression;
 
 /// What an each block says of its rows: the name of an item, that of its place, and its key.
@@ -15,13 +14,13 @@ use sv_script::expression;
 pub struct Row {
     pub item: Named,
     pub index: Option<Named>,
-    pub key: Option<Boxed<Expr>>,
+    pub key: Option<Expr>,
 }
 
 /// The head of an each block.
 #[derive(Drop)]
 pub struct Head {
-    pub list: Boxed<Expr>,
+    pub list: Expr,
     pub row: Row,
 }
 
@@ -72,11 +71,7 @@ fn index(tokens: &mut Tokens<'_>) -> Result<Option<Named>, ParseError>
 
 // The key of a row in round brackets, which are a construct.
 #[tactic(auto, unfolding(crate::specs::Rules::key))]
-fn key(
-    alloc: Global,
-    tokens: &mut Tokens<'_>,
-    room: usize,
-) -> Result<Option<Boxed<Expr>>, ParseError>
+fn key(alloc: Global, tokens: &mut Tokens<'_>, room: usize) -> Result<Option<Expr>, ParseError>
     ensures { Reads (spec.key real room tokens.old) result tokens.new }
 {
     if !tokens.sees(Lexeme::LParen) {
@@ -86,7 +81,7 @@ fn key(
         return Err(tokens.refuse(Kind::TooDeep));
     }
     tokens.take();
-    let found = Boxed::new(alloc, expression(alloc, tokens, room - 3)?)?;
+    let found = expression(alloc, tokens, room - 3)?;
     tokens.expect(Lexeme::RParen)?;
     Ok(Some(found))
 }
@@ -116,7 +111,7 @@ pub fn each_head(alloc: Global, source: &mut Source<'_>, room: usize) -> Result<
 {
     source.pass(6);
     let mut tokens = source.tokens();
-    let list = Boxed::new(alloc, expression(alloc, &mut tokens, room - 2)?)?;
+    let list = expression(alloc, &mut tokens, room - 2)?;
     let row = each_row(alloc, &mut tokens, room)?;
     *source = tokens.close(Lexeme::RBrace)?;
     Ok(Head { list, row })

@@ -468,7 +468,7 @@ fn is_let(rt: &impl Abort, stmts: &[Stmt]) -> Result<(), Fail> {
         return Err("no statement".into());
     };
     assert_eq!(rt; stmt.span, span(10, 20));
-    assert!(rt; matches!(&stmt.kind, StmtKind::Let(_)));
+    assert!(rt; matches!(stmt.kind.get(), StmtKind::Let(_)));
     Ok(())
 }
 

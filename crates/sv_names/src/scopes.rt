@@ -6,7 +6,6 @@ ghost use Rattle.sv_names.specs.Uses.{named, imported, optional, together, body_
 use crate::once::Distinct;
 use sv_ast::{Body, Decl, Import, Named, Ref, Spec, Stmt, StmtKind};
 use sv_base::NoMemory;
-use sv_list::Boxed;
 
 /// Declares a name.
 pub(crate) fn declare(scope: &mut Distinct, name: &Named) -> Result<(), NoMemory>
@@ -56,7 +55,7 @@ fn declare_import(scope: &mut Distinct, import: &Import) -> Result<(), NoMemory>
 pub(crate) fn declare_stmt(scope: &mut Distinct, stmt: &Stmt) -> Result<(), NoMemory>
     ensures { OnOk result (scope.new ≡ with_names scope.old (stmt_parts stmt.now).declares) }
 {
-    declare_kind(scope, &stmt.kind)
+    declare_kind(scope, stmt.kind.get())
 }
 
 fn declare_kind(scope: &mut Distinct, kind: &StmtKind) -> Result<(), NoMemory>
@@ -103,14 +102,11 @@ pub(crate) fn declare_body(scope: &mut Distinct, body: &Body) -> Result<(), NoMe
 }
 
 /// Declares what the head of a `for` declares.
-pub(crate) fn declare_optional(
-    scope: &mut Distinct,
-    stmt: &Option<Boxed<Stmt>>,
-) -> Result<(), NoMemory>
+pub(crate) fn declare_optional(scope: &mut Distinct, stmt: &Option<Stmt>) -> Result<(), NoMemory>
     ensures { OnOk result (scope.new ≡ with_names scope.old (optional (option_map stmt_parts stmt.now)).declares) }
 {
     match stmt {
-        Some(stmt) => declare_stmt(scope, stmt.get()),
+        Some(stmt) => declare_stmt(scope, stmt),
         None => Ok(()),
     }
 }

@@ -8,7 +8,7 @@ use sv_ast::{
     Arm, AssignOp, Body, Decl, Entry, Expr, ExprKind, Field, Link, Named, Ref, Stmt, StmtKind,
 };
 use sv_base::NoMemory;
-use sv_list::{Boxed, Items};
+use sv_list::Items;
 
 /// A place where a name stands free, with whether it is read there and whether it is assigned.
 #[derive(Clone, Copy, Debug, PartialEq, Eq)]
@@ -71,7 +71,7 @@ pub(crate) fn find(walk: &mut Walk, of: &Expr) -> Result<(), NoMemory>
     ensures scope { OnOk result (walk.new.scope ≡ walk.old.scope) }
     ensures uses { OnOk result (walk.new.uses ≡ walk.old.uses ++ spec.expr_uses of.now walk.old.scope) }
 {
-    find_kind(walk, &of.kind)
+    find_kind(walk, of.kind.get())
 }
 
 #[cycle(walk)]
@@ -92,26 +92,26 @@ fn find_kind(walk: &mut Walk, kind: &ExprKind) -> Result<(), NoMemory>
         ExprKind::Arrow { params, body } => find_arrow(walk, params.as_slice(), body),
         ExprKind::Assign { target, op, value } => {
             note(walk, assigned(*target, *op))?;
-            find(walk, value.get())
+            find(walk, value)
         }
         ExprKind::Bump { target, .. } => note(walk, bumped(*target)),
         ExprKind::Chain { first, rest } => {
-            find(walk, first.get())?;
+            find(walk, first)?;
             find_links(walk, rest.as_slice())
         }
-        ExprKind::Not(of) | ExprKind::Minus(of) => find(walk, of.get()),
+        ExprKind::Not(of) | ExprKind::Minus(of) => find(walk, of),
         ExprKind::Choose { test, yes, no } => {
-            find(walk, test.get())?;
-            find(walk, yes.get())?;
-            find(walk, no.get())
+            find(walk, test)?;
+            find(walk, yes)?;
+            find(walk, no)
         }
-        ExprKind::Member { of, .. } => find(walk, of.get()),
+        ExprKind::Member { of, .. } => find(walk, of),
         ExprKind::Index { of, at } => {
-            find(walk, of.get())?;
-            find(walk, at.get())
+            find(walk, of)?;
+            find(walk, at)
         }
         ExprKind::Call { of, args } => {
-            find(walk, of.get())?;
+            find(walk, of)?;
             find_all(walk, args.as_slice())
         }
     }
@@ -211,7 +211,7 @@ fn find_body(walk: &mut Walk, body: &Body) -> Result<(), NoMemory>
     ensures uses { OnOk result (walk.new.uses ≡ walk.old.uses ++ (spec.body_parts body.now).uses walk.old.scope) }
 {
     match body {
-        Body::Value(value) => find(walk, value.get()),
+        Body::Value(value) => find(walk, value),
         Body::Block(stmts) => find_stmts(walk, stmts.as_slice()),
     }
 }
@@ -222,7 +222,7 @@ pub(crate) fn find_stmt(walk: &mut Walk, stmt: &Stmt) -> Result<(), NoMemory>
     ensures scope { OnOk result (walk.new.scope ≡ walk.old.scope) }
     ensures uses { OnOk result (walk.new.uses ≡ walk.old.uses ++ (spec.stmt_parts stmt.now).uses walk.old.scope) }
 {
-    find_stmt_kind(walk, &stmt.kind)
+    find_stmt_kind(walk, stmt.kind.get())
 }
 
 #[cycle(walk)]
@@ -241,7 +241,7 @@ fn find_stmt_kind(walk: &mut Walk, kind: &StmtKind) -> Result<(), NoMemory>
         }
         StmtKind::While { test, body } => {
             find(walk, test)?;
-            find_stmt(walk, body.get())
+            find_stmt(walk, body)
         }
         StmtKind::For {
             first,
@@ -254,7 +254,7 @@ fn find_stmt_kind(walk: &mut Walk, kind: &StmtKind) -> Result<(), NoMemory>
             find_optional(walk, first)?;
             find_given(walk, test)?;
             find_given(walk, next)?;
-            find_stmt(walk, body.get())?;
+            find_stmt(walk, body)?;
             walk.scope.cut(open);
             Ok(())
         }
@@ -267,14 +267,14 @@ fn find_stmt_kind(walk: &mut Walk, kind: &StmtKind) -> Result<(), NoMemory>
             let open = walk.scope.len();
             declare(&mut walk.scope, name)?;
             find(walk, list)?;
-            find_stmt(walk, body.get())?;
+            find_stmt(walk, body)?;
             walk.scope.cut(open);
             Ok(())
         }
         StmtKind::Return(value) => find_given(walk, value),
         StmtKind::Eval(value) => find(walk, value),
         StmtKind::Export(decls) => find_decls(walk, decls.as_slice()),
-        StmtKind::React(of) => find_stmt(walk, of.get()),
+        StmtKind::React(of) => find_stmt(walk, of),
         StmtKind::Func { params, body, .. } => {
             find_block(walk, params.as_slice(), body.as_slice())
         }
@@ -338,12 +338,12 @@ fn find_arm(walk: &mut Walk, arm: &Arm) -> Result<(), NoMemory>
 }
 
 #[cycle(walk)]
-fn find_optional(walk: &mut Walk, stmt: &Option<Boxed<Stmt>>) -> Result<(), NoMemory>
+fn find_optional(walk: &mut Walk, stmt: &Option<Stmt>) -> Result<(), NoMemory>
     ensures scope { OnOk result (walk.new.scope ≡ walk.old.scope) }
     ensures uses { OnOk result (walk.new.uses ≡ walk.old.uses ++ (spec.optional (option_map spec.stmt_parts stmt.now)).uses walk.old.scope) }
 {
     match stmt {
-        Some(stmt) => find_stmt(walk, stmt.get()),
+        Some(stmt) => find_stmt(walk, stmt),
         None => Ok(()),
     }
 }

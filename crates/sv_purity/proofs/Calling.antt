@@ -24,17 +24,17 @@ call_places kind of args at table pure k =
     ∙ ap (λ f. (f at).places table pure) (fold-roll-ExprKind Part Places Placed Places Part Places Part Asked Places Part body entry expr_kind field stmt_kind arm decl expr link stmt (ExprKind-F.Call of args))
 
 -- a call itself is looked at, what is called, and then the arguments
-pub call_on : (kind : AnyExpr) (of of1 of2 : Expr) (args args1 args2 : List Expr) (at : Span) (table : Table) (pure : List Ref) (r1 r2 r3 : Result (Unit {0}) Span) → kind ≡ ExprKind.Call of args
-    → of1 ≡ of → args1 ≡ args → of2 ≡ of → args2 ≡ args
-    → r1 ≡ outcome (unless (may_call (asked of1).form (map (λ arg. arg.form) (map asked args1))) at table pure)
-    → r2 ≡ outcome ((asked of2).places table pure)
+pub call_on : (kind : AnyExpr) (of : Expr) (args args1 args2 : List Expr) (at : Span) (table : Table) (pure : List Ref) (r1 r2 r3 : Result (Unit {0}) Span) → kind ≡ ExprKind.Call of args
+    → args1 ≡ args → args2 ≡ args
+    → r1 ≡ outcome (unless (may_call (asked of).form (map (λ arg. arg.form) (map asked args1))) at table pure)
+    → r2 ≡ outcome ((asked of).places table pure)
     → r3 ≡ outcome (each (map (λ arg. arg.places) (map asked args2)) table pure)
     → then r1 (then r2 r3) ≡ outcome ((kind_asked kind at).places table pure)
-call_on kind of of1 of2 args args1 args2 at table pure r1 r2 r3 k o1 a1 o2 a2 e1 e2 e3 =
-    let own = λ (x : Expr) (xs : List Expr). unless (may_call (asked x).form (map (λ arg. arg.form) (map asked xs))) at table pure in
+call_on kind of args args1 args2 at table pure r1 r2 r3 k a1 a2 e1 e2 e3 =
+    let own = λ (xs : List Expr). unless (may_call (asked of).form (map (λ arg. arg.form) (map asked xs))) at table pure in
     let given = λ (xs : List Expr). each (map (λ arg. arg.places) (map asked xs)) table pure in
-    outcomes (own of args) _ (e1 ∙ ap (λ x. outcome (own x args1)) o1 ∙ ap (λ xs. outcome (own of xs)) a1)
-    (outcomes ((asked of).places table pure) (given args) (e2 ∙ ap (λ x. outcome ((asked x).places table pure)) o2) (e3 ∙ ap (λ xs. outcome (given xs)) a2))
+    outcomes (own args) _ (e1 ∙ ap (λ xs. outcome (own xs)) a1)
+    (outcomes ((asked of).places table pure) (given args) e2 (e3 ∙ ap (λ xs. outcome (given xs)) a2))
     ∙ sym (ap outcome (call_places kind of args at table pure k))
 
 for_is : (first : Option Stmt) (test next : Option Expr) (turn : Stmt) (table : Table) (pure : List Ref) → (stmt_kind_part (StmtKind.For first test next turn)).places table pure
@@ -50,17 +50,17 @@ for_is (Some f) (Some e) None turn table pure = ap (λ p. p.places table pure) (
 for_is (Some f) (Some e) (Some n) turn table pure = ap (λ p. p.places table pure) (fold-roll-StmtKind Part Places Placed Places Part Places Part Asked Places Part body entry expr_kind field stmt_kind arm decl expr link stmt (StmtKind-F.For (Some f) (Some e) (Some n) turn))
 
 -- the head of a `for` is looked at in its scope, and then the body
-pub for_on : (kind : AnyStmt) (first : Option Stmt) (test next : Option Expr) (turn turn1 : Stmt) (head : List Stmt) (table : Table) (outer inner : List Ref) (r1 r2 r3 r4 : Result (Unit {0}) Span) → kind ≡ StmtKind.For first test next turn
-    → turn1 ≡ turn → head ≡ option_to_list first → inner ≡ without (declared_by [] head) outer
+pub for_on : (kind : AnyStmt) (first : Option Stmt) (test next : Option Expr) (turn : Stmt) (head : List Stmt) (table : Table) (outer inner : List Ref) (r1 r2 r3 r4 : Result (Unit {0}) Span) → kind ≡ StmtKind.For first test next turn
+    → head ≡ option_to_list first → inner ≡ without (declared_by [] head) outer
     → r1 ≡ outcome ((together (map stmt_part head)).places table inner)
     → r2 ≡ outcome (given (option_map asked test) table inner)
     → r3 ≡ outcome (given (option_map asked next) table inner)
-    → r4 ≡ outcome ((stmt_part turn1).places table inner)
+    → r4 ≡ outcome ((stmt_part turn).places table inner)
     → then r1 (then r2 (then r3 r4)) ≡ outcome ((stmt_kind_part kind).places table outer)
-for_on kind first test next turn turn1 head table outer inner r1 r2 r3 r4 k t h i e1 e2 e3 e4 =
-    let whole = λ (stmts : List Stmt) (x : Stmt). for_head (together (map stmt_part stmts)) (given (option_map asked test)) (given (option_map asked next)) (stmt_part x).places table outer in
-    let rest = λ (stmts : List Stmt) (x : Stmt). both (together (map stmt_part stmts)).places (both (given (option_map asked test)) (both (given (option_map asked next)) (stmt_part x).places)) in
+for_on kind first test next turn head table outer inner r1 r2 r3 r4 k h i e1 e2 e3 e4 =
+    let whole = λ (stmts : List Stmt). for_head (together (map stmt_part stmts)) (given (option_map asked test)) (given (option_map asked next)) (stmt_part turn).places table outer in
+    let rest = λ (stmts : List Stmt). both (together (map stmt_part stmts)).places (both (given (option_map asked test)) (both (given (option_map asked next)) (stmt_part turn).places)) in
     outcomes ((together (map stmt_part head)).places table inner) _ e1
-    (outcomes (given (option_map asked test) table inner) _ e2 (outcomes (given (option_map asked next) table inner) ((stmt_part turn1).places table inner) e3 e4))
-    ∙ ap (λ z. outcome (rest head turn1 table z)) i ∙ ap (λ stmts. outcome (whole stmts turn1)) h ∙ ap (λ x. outcome (whole (option_to_list first) x)) t
+    (outcomes (given (option_map asked test) table inner) _ e2 (outcomes (given (option_map asked next) table inner) ((stmt_part turn).places table inner) e3 e4))
+    ∙ ap (λ z. outcome (rest head table z)) i ∙ ap (λ stmts. outcome (whole stmts)) h
     ∙ sym (ap outcome (ap (λ x. (stmt_kind_part x).places table outer) k ∙ for_is first test next turn table outer))

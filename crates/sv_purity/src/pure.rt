@@ -15,7 +15,6 @@ use sv_ast::{
     Arm, Body, Decl, Entry, Expr, ExprKind, Field, Link, Named, Ref, RefList, Stmt, StmtKind,
 };
 use sv_base::{Names, Span};
-use sv_list::Boxed;
 
 /// Whether an expression may stand in markup: its evaluation assigns nothing, has no `++` and no `--`, and each call in it is of
 /// one of three kinds.
@@ -62,7 +61,7 @@ pub fn first_impurity(names: &Names, e: &Expr, scope: &Scope<'_>) -> Option<Span
 fn check_expr(e: &Expr, names: &Names, scope: &Scope<'_>) -> Result<(), Span>
     ensures { result ≡ outcome ((spec.asked e.now).places names.now (visible scope.now)) }
 {
-    check_kind(&e.kind, e.span, names, scope)
+    check_kind(e.kind.get(), e.span, names, scope)
 }
 
 #[cycle(walk)]
@@ -82,23 +81,23 @@ fn check_kind(of: &ExprKind, at: Span, names: &Names, scope: &Scope<'_>) -> Resu
         ExprKind::Obj(fields) => check_fields(fields.as_slice(), names, scope),
         ExprKind::Template(parts) => check_exprs(parts.as_slice(), names, scope),
         ExprKind::Chain { first, rest } => {
-            check_expr(first.get(), names, scope)?;
+            check_expr(first, names, scope)?;
             check_links(rest.as_slice(), names, scope)
         }
-        ExprKind::Not(of) | ExprKind::Minus(of) => check_expr(of.get(), names, scope),
+        ExprKind::Not(of) | ExprKind::Minus(of) => check_expr(of, names, scope),
         ExprKind::Choose { test, yes, no } => {
-            check_expr(test.get(), names, scope)?;
-            check_expr(yes.get(), names, scope)?;
-            check_expr(no.get(), names, scope)
+            check_expr(test, names, scope)?;
+            check_expr(yes, names, scope)?;
+            check_expr(no, names, scope)
         }
-        ExprKind::Member { of, .. } => check_expr(of.get(), names, scope),
+        ExprKind::Member { of, .. } => check_expr(of, names, scope),
         ExprKind::Index { of, at } => {
-            check_expr(of.get(), names, scope)?;
-            check_expr(at.get(), names, scope)
+            check_expr(of, names, scope)?;
+            check_expr(at, names, scope)
         }
         ExprKind::Call { of, args } => {
-            check_call(args.as_slice(), of.get(), at, names, scope)?;
-            check_expr(of.get(), names, scope)?;
+            check_call(args.as_slice(), of, at, names, scope)?;
+            check_expr(of, names, scope)?;
             check_exprs(args.as_slice(), names, scope)
         }
     }
@@ -195,12 +194,12 @@ fn check_call(
 fn may_call(args: &[Expr], of: &Expr, names: &Names, scope: &Scope<'_>) -> bool
     ensures { result ≡ spec.may_call (spec.asked of.now).form (map (λ arg. arg.form) (map spec.asked args.now)) names.now (visible scope.now) }
 {
-    match &of.kind {
+    match of.kind.get() {
         ExprKind::Read(name) => is_pure_name(scope, *name),
         ExprKind::Member { of, word } => {
             is_value_call(names, *word)
                 || is_list_call(names, *word) && begins_with_function(args, names, scope)
-                || names_math(of.get(), names) && is_math_call(names, *word)
+                || names_math(of, names) && is_math_call(names, *word)
         }
         _ => false,
     }
@@ -210,7 +209,7 @@ fn may_call(args: &[Expr], of: &Expr, names: &Names, scope: &Scope<'_>) -> bool
 fn names_math(of: &Expr, names: &Names) -> bool
     ensures { result ≡ spec.is_math (spec.asked of.now).form names.now }
 {
-    match &of.kind {
+    match of.kind.get() {
         ExprKind::Read(Ref::Plain(name)) => is_math(names, *name),
         _ => false,
     }
@@ -233,7 +232,7 @@ fn begins_with_function(args: &[Expr], names: &Names, scope: &Scope<'_>) -> bool
 fn is_pure_function(e: &Expr, names: &Names, scope: &Scope<'_>) -> bool
     ensures { result ≡ spec.is_function (spec.asked e.now).form names.now (visible scope.now) }
 {
-    match &e.kind {
+    match e.kind.get() {
         ExprKind::Read(name) => is_pure_name(scope, *name),
         ExprKind::Arrow { params, body } => {
             check_arrow(params.as_slice(), body, names, scope).is_ok()
@@ -250,7 +249,7 @@ fn check_arrow(params: &[Named], body: &Body, names: &Names, scope: &Scope<'_>) 
     match body {
         Body::Value(value) => {
             let inner = Scope::inside(&*scope, params, &[]);
-            check_expr(value.get(), names, &inner)
+            check_expr(value, names, &inner)
         }
         Body::Block(stmts) => check_block(params, stmts.as_slice(), names, scope),
     }
@@ -284,7 +283,7 @@ fn check_stmts(stmts: &[Stmt], names: &Names, scope: &Scope<'_>) -> Result<(), S
 fn check_stmt(of: &Stmt, names: &Names, scope: &Scope<'_>) -> Result<(), Span>
     ensures { result ≡ outcome ((spec.stmt_part of.now).places names.now (visible scope.now)) }
 {
-    check_stmt_kind(&of.kind, names, scope)
+    check_stmt_kind(of.kind.get(), names, scope)
 }
 
 #[cycle(walk)]
@@ -307,7 +306,7 @@ fn check_stmt_kind(of: &StmtKind, names: &Names, scope: &Scope<'_>) -> Result<()
         }
         StmtKind::While { test, body } => {
             check_expr(test, names, scope)?;
-            check_stmt(body.get(), names, scope)
+            check_stmt(body, names, scope)
         }
         StmtKind::For {
             first,
@@ -320,7 +319,7 @@ fn check_stmt_kind(of: &StmtKind, names: &Names, scope: &Scope<'_>) -> Result<()
             check_stmts(head, names, &inner)?;
             check_given(test, names, &inner)?;
             check_given(next, names, &inner)?;
-            check_stmt(body.get(), names, &inner)
+            check_stmt(body, names, &inner)
         }
         StmtKind::Each {
             name,
@@ -330,30 +329,30 @@ fn check_stmt_kind(of: &StmtKind, names: &Names, scope: &Scope<'_>) -> Result<()
         } => {
             let inner = Scope::inside(&*scope, slice::from_ref(name), &[]);
             check_expr(list, names, &inner)?;
-            check_stmt(body.get(), names, &inner)
+            check_stmt(body, names, &inner)
         }
         StmtKind::Return(value) => check_given(value, names, scope),
         StmtKind::Eval(value) => check_expr(value, names, scope),
-        StmtKind::React(of) => check_stmt(of.get(), names, scope),
+        StmtKind::React(of) => check_stmt(of, names, scope),
     }
 }
 
 // The first part of the head of a `for`, as what stands in its scope.
-fn head(first: &Option<Boxed<Stmt>>) -> &[Stmt]
+fn head(first: &Option<Stmt>) -> &[Stmt]
     ensures { result.now ≡ option_to_list first.now }
 {
     match first {
-        Some(first) => slice::from_ref(first.get()),
+        Some(first) => slice::from_ref(first),
         None => &[],
     }
 }
 
 #[cycle(walk)]
-fn check_optional(of: &Option<Boxed<Stmt>>, names: &Names, scope: &Scope<'_>) -> Result<(), Span>
+fn check_optional(of: &Option<Stmt>, names: &Names, scope: &Scope<'_>) -> Result<(), Span>
     ensures { result ≡ outcome ((spec.together (option_to_list (option_map spec.stmt_part of.now))).places names.now (visible scope.now)) }
 {
     match of {
-        Some(of) => check_stmt(of.get(), names, scope),
+        Some(of) => check_stmt(of, names, scope),
         None => Ok(()),
     }
 }

@@ -135,7 +135,7 @@ fn is_declared<S: Sought>(stmts: &[Stmt], sought: &S) -> bool
 fn declares<S: Sought>(stmt: &Stmt, sought: &S) -> bool
     ensures { result ≡ list_any (S.is_sought sought.now) (stmt_part stmt.now).declares }
 {
-    match &stmt.kind {
+    match stmt.kind.get() {
         StmtKind::Let(decls) | StmtKind::Export(decls) => is_among(decls.as_slice(), sought),
         StmtKind::Const { decls, .. } => is_among(decls.as_slice(), sought),
         StmtKind::Import(import) => imports(import, sought),

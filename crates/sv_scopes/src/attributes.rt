@@ -136,7 +136,7 @@ fn declare_part(found: &mut Found, part: &AttrPart) -> Result<(), NoMemory>
     ensures { OnOk result (Finds found.old found.new (declaring (spec.given_part part.now))) }
 {
     match part {
-        AttrPart::Show { value, .. } => match &value.kind {
+        AttrPart::Show { value, .. } => match value.kind.get() {
             ExprKind::Read(Ref::Plain(name)) => declare_local(found, *name, value.span),
             _ => Ok(()),
         },

@@ -88,13 +88,13 @@ fn find_script(found: &mut Found, s: &Script) -> Result<(), NoMemory>
 fn declare_reactive(found: &mut Found, stmt: &Stmt) -> Result<(), NoMemory>
     ensures { OnOk result (Finds found.old found.new (declaring (spec.reactive stmt.now))) }
 {
-    let StmtKind::React(of) = &stmt.kind else {
+    let StmtKind::React(of) = stmt.kind.get() else {
         return Ok(());
     };
-    let StmtKind::Eval(value) = &of.get().kind else {
+    let StmtKind::Eval(value) = of.kind.get() else {
         return Ok(());
     };
-    match &value.kind {
+    match value.kind.get() {
         ExprKind::Assign {
             target: Ref::Plain(name),
             op: AssignOp::Set,

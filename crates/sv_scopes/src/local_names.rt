@@ -48,7 +48,7 @@ fn add_part(names: &mut Distinct, part: &AttrPart) -> Result<(), NoMemory>
     ensures { OnOk result (names.new ≡ with_names names.old (names_of (spec.given_part part.now))) }
 {
     match part {
-        AttrPart::Show { value, .. } => match &value.kind {
+        AttrPart::Show { value, .. } => match value.kind.get() {
             ExprKind::Read(Ref::Plain(name)) => names.add(Ref::Plain(*name)),
             _ => Ok(()),
         },

@@ -8,7 +8,6 @@ use crate::found::Found;
 use crate::words::{Binding, Form, Role, Use};
 use sv_ast::{Arm, Body, Decl, Entry, Expr, ExprKind, Field, Link, Named, Ref, Stmt, StmtKind};
 use sv_base::{Name, NoMemory, Span};
-use sv_list::Boxed;
 
 /// A use, round which no arrow stands so far.
 pub(crate) fn use_of(name: Ref, form: Form, span: Span, role: Role) -> Use
@@ -53,7 +52,7 @@ fn for_binding(fixed: bool) -> Binding
 pub(crate) fn find(found: &mut Found, of: &Expr, role: Role) -> Result<(), NoMemory>
     ensures { OnOk result (Finds found.old found.new (spec.expr_parts of.now role)) }
 {
-    find_kind(found, &of.kind, of.span, role)
+    find_kind(found, of.kind.get(), of.span, role)
 }
 
 #[cycle(walk)]
@@ -73,28 +72,28 @@ fn find_kind(found: &mut Found, kind: &ExprKind, span: Span, role: Role) -> Resu
         ExprKind::Arrow { params, body } => find_arrow(found, params.as_slice(), body),
         ExprKind::Assign { target, value, .. } => {
             found.note(use_of(*target, Form::Assigned, span, Role::Alone))?;
-            find(found, value.get(), Role::Alone)
+            find(found, value, Role::Alone)
         }
         ExprKind::Bump { target, prefix, .. } => {
             found.note(use_of(*target, bump_form(*prefix), span, Role::Alone))
         }
         ExprKind::Chain { first, rest } => {
-            find(found, first.get(), Role::Alone)?;
+            find(found, first, Role::Alone)?;
             find_links(found, rest.as_slice())
         }
-        ExprKind::Not(of) | ExprKind::Minus(of) => find(found, of.get(), Role::Alone),
+        ExprKind::Not(of) | ExprKind::Minus(of) => find(found, of, Role::Alone),
         ExprKind::Choose { test, yes, no } => {
-            find(found, test.get(), Role::Alone)?;
-            find(found, yes.get(), Role::Alone)?;
-            find(found, no.get(), Role::Alone)
+            find(found, test, Role::Alone)?;
+            find(found, yes, Role::Alone)?;
+            find(found, no, Role::Alone)
         }
-        ExprKind::Member { of, word } => find(found, of.get(), member_role(*word, role)),
+        ExprKind::Member { of, word } => find(found, of, member_role(*word, role)),
         ExprKind::Index { of, at } => {
-            find(found, of.get(), Role::Alone)?;
-            find(found, at.get(), Role::Alone)
+            find(found, of, Role::Alone)?;
+            find(found, at, Role::Alone)
         }
         ExprKind::Call { of, args } => {
-            find(found, of.get(), Role::Called)?;
+            find(found, of, Role::Called)?;
             find_all(found, args.as_slice())
         }
     }
@@ -184,7 +183,7 @@ fn find_body(found: &mut Found, body: &Body) -> Result<(), NoMemory>
     ensures { OnOk result (Finds found.old found.new (spec.body_parts body.now)) }
 {
     match body {
-        Body::Value(value) => find(found, value.get(), Role::Alone),
+        Body::Value(value) => find(found, value, Role::Alone),
         Body::Block(stmts) => find_stmts(found, stmts.as_slice()),
     }
 }
@@ -194,7 +193,7 @@ fn find_body(found: &mut Found, body: &Body) -> Result<(), NoMemory>
 pub(crate) fn find_stmt(found: &mut Found, stmt: &Stmt) -> Result<(), NoMemory>
     ensures { OnOk result (Finds found.old found.new (spec.stmt_parts stmt.now)) }
 {
-    find_stmt_kind(found, &stmt.kind)
+    find_stmt_kind(found, stmt.kind.get())
 }
 
 #[cycle(walk)]
@@ -212,7 +211,7 @@ fn find_stmt_kind(found: &mut Found, kind: &StmtKind) -> Result<(), NoMemory>
         }
         StmtKind::While { test, body } => {
             find(found, test, Role::Alone)?;
-            find_stmt(found, body.get())
+            find_stmt(found, body)
         }
         StmtKind::For {
             first,
@@ -224,7 +223,7 @@ fn find_stmt_kind(found: &mut Found, kind: &StmtKind) -> Result<(), NoMemory>
             find_optional(found, first)?;
             find_given(found, test)?;
             find_given(found, next)?;
-            find_stmt(found, body.get())?;
+            find_stmt(found, body)?;
             found.leave(around, false)
         }
         StmtKind::Each {
@@ -236,14 +235,14 @@ fn find_stmt_kind(found: &mut Found, kind: &StmtKind) -> Result<(), NoMemory>
             let around = found.enter();
             declare(found, name, for_binding(*fixed))?;
             find(found, list, Role::Alone)?;
-            find_stmt(found, body.get())?;
+            find_stmt(found, body)?;
             found.leave(around, false)
         }
         StmtKind::Return(value) => find_given(found, value),
         StmtKind::Eval(value) => find(found, value, Role::Alone),
         StmtKind::Import(import) => declare_import(found, import),
         StmtKind::Export(decls) => find_decls(found, decls.as_slice(), Binding::Export),
-        StmtKind::React(of) => find_stmt(found, of.get()),
+        StmtKind::React(of) => find_stmt(found, of),
         StmtKind::Func {
             name,
             params,
@@ -300,11 +299,11 @@ fn find_arms(found: &mut Found, arms: &[Arm]) -> Result<(), NoMemory>
 }
 
 #[cycle(walk)]
-fn find_optional(found: &mut Found, stmt: &Option<Boxed<Stmt>>) -> Result<(), NoMemory>
+fn find_optional(found: &mut Found, stmt: &Option<Stmt>) -> Result<(), NoMemory>
     ensures { OnOk result (Finds found.old found.new (optional (option_map spec.stmt_parts stmt.now))) }
 {
     match stmt {
-        Some(stmt) => find_stmt(found, stmt.get()),
+        Some(stmt) => find_stmt(found, stmt),
         None => Ok(()),
     }
 }

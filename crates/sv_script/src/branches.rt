@@ -13,7 +13,7 @@ use std::alloc::Global;
 use sv_ast::{Arm, Arms, Expr, Kind, ParseError, Stmt, StmtKind, Stmts};
 use sv_expr::{Form, LINK_LIMIT};
 use sv_lex::{Lexeme, Tokens};
-use sv_list::{Boxed, Items};
+use sv_list::Items;
 
 impl<
     F: Fn(Global, &mut Tokens<'_>, usize, Form) -> Result<Expr, ParseError>,
@@ -61,17 +61,12 @@ impl<
     }
 
     #[tactic(auto, unfolding(crate::specs::Rules::otherwise))]
-    fn otherwise(
-        &self,
-        tokens: &mut Tokens<'_>,
-        place: Place,
-    ) -> Result<Option<Boxed<Stmt>>, ParseError>
+    fn otherwise(&self, tokens: &mut Tokens<'_>, place: Place) -> Result<Option<Stmt>, ParseError>
         requires { Holds (bodies real self.now.exprs.room) self.now.exprs.room (F.pre self.now.exprs.inside) (F.post self.now.exprs.inside) (G.pre self.now.exprs.block) (G.post self.now.exprs.block) (H.pre self.now.block) (H.post self.now.block) (K.pre self.now.body) (K.post self.now.body) }
         ensures { Reads (spec.otherwise real self.now.exprs.room (bodies real self.now.exprs.room) place tokens.old) result tokens.new }
     {
         if tokens.eat(Lexeme::Else) {
-            let body = self.body(tokens, place)?;
-            Ok(Some(Boxed::new(self.exprs.alloc, body)?))
+            Ok(Some(self.body(tokens, place)?))
         } else {
             Ok(None)
         }
@@ -89,9 +84,7 @@ impl<
         let from = tokens.start();
         let arms = self.arms(tokens, place, LINK_LIMIT)?;
         let last = self.otherwise(tokens, place)?;
-        Ok(Stmt {
-            span: tokens.span_from(from),
-            kind: StmtKind::If { arms, last },
-        })
+        let kind = StmtKind::If { arms, last };
+        Ok(Stmt::new(self.exprs.alloc, tokens.span_from(from), kind)?)
     }
 }

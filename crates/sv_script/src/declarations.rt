@@ -86,10 +86,8 @@ impl<
         let from = tokens.start();
         let found = self.variables(tokens, false)?;
         tokens.ending()?;
-        Ok(Stmt {
-            span: tokens.span_from(from),
-            kind: StmtKind::Let(found),
-        })
+        let kind = StmtKind::Let(found);
+        Ok(Stmt::new(self.exprs.alloc, tokens.span_from(from), kind)?)
     }
 
     // `const` and its names, behind `export` or not.
@@ -110,10 +108,8 @@ impl<
         { self.fixed(tokens) };
         let decls = separated(self.exprs.alloc, tokens, fixed)?;
         tokens.ending()?;
-        Ok(Stmt {
-            span: tokens.span_from(from),
-            kind: StmtKind::Const { decls, exported },
-        })
+        let kind = StmtKind::Const { decls, exported };
+        Ok(Stmt::new(self.exprs.alloc, tokens.span_from(from), kind)?)
     }
 
     #[tactic(auto, unfolding(crate::specs::Rules::params))]
@@ -143,15 +139,13 @@ impl<
         let name = tokens.name()?;
         let params = self.params(tokens)?;
         let body = self.block(tokens, FUNCTION)?;
-        Ok(Stmt {
-            span: tokens.span_from(from),
-            kind: StmtKind::Func {
-                name,
-                exported,
-                params,
-                body,
-            },
-        })
+        let kind = StmtKind::Func {
+            name,
+            exported,
+            params,
+            body,
+        };
+        Ok(Stmt::new(self.exprs.alloc, tokens.span_from(from), kind)?)
     }
 }
 

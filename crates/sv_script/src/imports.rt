@@ -67,14 +67,12 @@ fn import_whole(alloc: Global, tokens: &mut Tokens<'_>, from: u32) -> Result<Stm
 {
     let whole = Some(tokens.name()?);
     let text = origin(tokens, true)?;
-    Ok(Stmt {
-        span: tokens.span_from(from),
-        kind: StmtKind::Import(Import {
-            from: text,
-            whole,
-            specs: Specs::new(alloc),
-        }),
-    })
+    let kind = StmtKind::Import(Import {
+        from: text,
+        whole,
+        specs: Specs::new(alloc),
+    });
+    Ok(Stmt::new(alloc, tokens.span_from(from), kind)?)
 }
 
 #[tactic(auto, unfolding(crate::specs::Script::import_names))]
@@ -84,14 +82,12 @@ fn import_names(alloc: Global, tokens: &mut Tokens<'_>, from: u32) -> Result<Stm
     tokens.take();
     let specs = listed(alloc, tokens, Lexeme::RBrace, import_name)?;
     let text = origin(tokens, false)?;
-    Ok(Stmt {
-        span: tokens.span_from(from),
-        kind: StmtKind::Import(Import {
-            from: text,
-            whole: None,
-            specs,
-        }),
-    })
+    let kind = StmtKind::Import(Import {
+        from: text,
+        whole: None,
+        specs,
+    });
+    Ok(Stmt::new(alloc, tokens.span_from(from), kind)?)
 }
 
 /// An import.

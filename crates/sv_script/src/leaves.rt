@@ -4,6 +4,7 @@ ghost use Rattle.sv_lex.specs.Reader.{Reads};
 ghost use Rattle.sv_script.specs.Rules as spec;
 
 use crate::place::Place;
+use std::alloc::Global;
 use sv_ast::{Kind, ParseError, Stmt, StmtKind};
 use sv_base::Span;
 use sv_lex::{Lexeme, Tokens, first, past, same_lexeme};
@@ -24,39 +25,38 @@ fn single(tokens: &mut Tokens<'_>, may_stand: bool) -> Result<Span, ParseError>
 
 /// `;`.
 #[tactic(auto, unfolding(crate::specs::Rules::empty))]
-pub fn empty(tokens: &mut Tokens<'_>) -> Result<Stmt, ParseError>
+pub fn empty(alloc: Global, tokens: &mut Tokens<'_>) -> Result<Stmt, ParseError>
     ensures { Reads (spec.empty tokens.old) result tokens.new }
 {
     let from = tokens.start();
     tokens.take();
-    Ok(Stmt {
-        span: tokens.span_from(from),
-        kind: StmtKind::Empty,
-    })
+    Ok(Stmt::new(alloc, tokens.span_from(from), StmtKind::Empty)?)
 }
 
 /// `break` in a loop.
 #[tactic(auto, unfolding(crate::specs::Rules::break_statement))]
-pub fn break_statement(tokens: &mut Tokens<'_>, place: Place) -> Result<Stmt, ParseError>
+pub fn break_statement(
+    alloc: Global,
+    tokens: &mut Tokens<'_>,
+    place: Place,
+) -> Result<Stmt, ParseError>
     ensures { Reads (spec.break_statement place tokens.old) result tokens.new }
 {
     let span = single(tokens, place.in_loop)?;
-    Ok(Stmt {
-        span,
-        kind: StmtKind::Break,
-    })
+    Ok(Stmt::new(alloc, span, StmtKind::Break)?)
 }
 
 /// `continue` in a loop.
 #[tactic(auto, unfolding(crate::specs::Rules::continue_statement))]
-pub fn continue_statement(tokens: &mut Tokens<'_>, place: Place) -> Result<Stmt, ParseError>
+pub fn continue_statement(
+    alloc: Global,
+    tokens: &mut Tokens<'_>,
+    place: Place,
+) -> Result<Stmt, ParseError>
     ensures { Reads (spec.continue_statement place tokens.old) result tokens.new }
 {
     let span = single(tokens, place.in_loop)?;
-    Ok(Stmt {
-        span,
-        kind: StmtKind::Continue,
-    })
+    Ok(Stmt::new(alloc, span, StmtKind::Continue)?)
 }
 
 /// Whether no expression comes on the line of a `return`.

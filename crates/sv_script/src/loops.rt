@@ -14,7 +14,6 @@ use std::alloc::Global;
 use sv_ast::{Expr, ParseError, Stmt, StmtKind, Stmts};
 use sv_expr::Form;
 use sv_lex::{Lexeme, Tokens};
-use sv_list::Boxed;
 
 impl<
     F: Fn(Global, &mut Tokens<'_>, usize, Form) -> Result<Expr, ParseError>,
@@ -23,12 +22,11 @@ impl<
     K: Fn(Global, &mut Tokens<'_>, usize, Place) -> Result<Stmt, ParseError>,
 > Statements<F, G, H, K> {
     // The body of a loop.
-    fn turn(&self, tokens: &mut Tokens<'_>, place: Place) -> Result<Boxed<Stmt>, ParseError>
+    fn turn(&self, tokens: &mut Tokens<'_>, place: Place) -> Result<Stmt, ParseError>
         requires { Holds (bodies real self.now.exprs.room) self.now.exprs.room (F.pre self.now.exprs.inside) (F.post self.now.exprs.inside) (G.pre self.now.exprs.block) (G.post self.now.exprs.block) (H.pre self.now.block) (H.post self.now.block) (K.pre self.now.body) (K.post self.now.body) }
         ensures { Reads ((bodies real self.now.exprs.room).body (looped place) tokens.old) result tokens.new }
     {
-        let body = self.body(tokens, place.looped())?;
-        Ok(Boxed::new(self.exprs.alloc, body)?)
+        self.body(tokens, place.looped())
     }
 
     #[tactic(auto, unfolding(crate::specs::Rules::while_statement))]
@@ -44,10 +42,8 @@ impl<
         tokens.take();
         let test = self.bracketed(tokens)?;
         let body = self.turn(tokens, place)?;
-        Ok(Stmt {
-            span: tokens.span_from(from),
-            kind: StmtKind::While { test, body },
-        })
+        let kind = StmtKind::While { test, body };
+        Ok(Stmt::new(self.exprs.alloc, tokens.span_from(from), kind)?)
     }
 
     // `of` and the list, up to the closing bracket.
@@ -73,15 +69,13 @@ impl<
         let name = tokens.name()?;
         let list = self.list_behind(tokens)?;
         let body = self.turn(tokens, place)?;
-        Ok(Stmt {
-            span: tokens.span_from(from),
-            kind: StmtKind::Each {
-                name,
-                fixed,
-                list,
-                body,
-            },
-        })
+        let kind = StmtKind::Each {
+            name,
+            fixed,
+            list,
+            body,
+        };
+        Ok(Stmt::new(self.exprs.alloc, tokens.span_from(from), kind)?)
     }
 
     #[tactic(auto, unfolding(crate::specs::Rules::head_let))]
@@ -91,10 +85,8 @@ impl<
     {
         let from = tokens.start();
         let found = self.variables(tokens, true)?;
-        Ok(Stmt {
-            span: tokens.span_from(from),
-            kind: StmtKind::Let(found),
-        })
+        let kind = StmtKind::Let(found);
+        Ok(Stmt::new(self.exprs.alloc, tokens.span_from(from), kind)?)
     }
 
     #[tactic(auto, unfolding(crate::specs::Rules::head_value))]
@@ -104,10 +96,8 @@ impl<
     {
         let from = tokens.start();
         let value = self.enclosed(tokens)?;
-        Ok(Stmt {
-            span: tokens.span_from(from),
-            kind: StmtKind::Eval(value),
-        })
+        let kind = StmtKind::Eval(value);
+        Ok(Stmt::new(self.exprs.alloc, tokens.span_from(from), kind)?)
     }
 
     #[tactic(auto, unfolding(crate::specs::Rules::head_statement))]
@@ -124,7 +114,7 @@ impl<
 
     // What a loop begins with, up to its `;`.
     #[tactic(auto, unfolding(crate::specs::Rules::head_first))]
-    fn head_first(&self, tokens: &mut Tokens<'_>) -> Result<Option<Boxed<Stmt>>, ParseError>
+    fn head_first(&self, tokens: &mut Tokens<'_>) -> Result<Option<Stmt>, ParseError>
         requires { Holds (bodies real self.now.exprs.room) self.now.exprs.room (F.pre self.now.exprs.inside) (F.post self.now.exprs.inside) (G.pre self.now.exprs.block) (G.post self.now.exprs.block) (H.pre self.now.block) (H.post self.now.block) (K.pre self.now.body) (K.post self.now.body) }
         ensures { Reads (spec.head_first real self.now.exprs.room (bodies real self.now.exprs.room) tokens.old) result tokens.new }
     {
@@ -132,7 +122,6 @@ impl<
             return Ok(None);
         }
         let first = self.head_statement(tokens)?;
-        let first = Boxed::new(self.exprs.alloc, first)?;
         tokens.expect(Lexeme::Semi)?;
         Ok(Some(first))
     }
@@ -165,15 +154,13 @@ impl<
         let test = self.head_value_upto(tokens, Lexeme::Semi)?;
         let next = self.head_value_upto(tokens, Lexeme::RParen)?;
         let body = self.turn(tokens, place)?;
-        Ok(Stmt {
-            span: tokens.span_from(from),
-            kind: StmtKind::For {
-                first,
-                test,
-                next,
-                body,
-            },
-        })
+        let kind = StmtKind::For {
+            first,
+            test,
+            next,
+            body,
+        };
+        Ok(Stmt::new(self.exprs.alloc, tokens.span_from(from), kind)?)
     }
 
     #[tactic(auto, unfolding(crate::specs::Rules::for_statement))]

@@ -85,10 +85,8 @@ impl<
     {
         let from = tokens.start();
         let found = self.block(tokens, place)?;
-        Ok(Stmt {
-            span: tokens.span_from(from),
-            kind: StmtKind::Block(found),
-        })
+        let kind = StmtKind::Block(found);
+        Ok(Stmt::new(self.exprs.alloc, tokens.span_from(from), kind)?)
     }
 
     // The expression on the line of a `return`.
@@ -116,10 +114,8 @@ impl<
         tokens.take();
         let value = self.answer(tokens)?;
         tokens.ending()?;
-        Ok(Stmt {
-            span: tokens.span_from(from),
-            kind: StmtKind::Return(value),
-        })
+        let kind = StmtKind::Return(value);
+        Ok(Stmt::new(self.exprs.alloc, tokens.span_from(from), kind)?)
     }
 
     #[tactic(auto, unfolding(crate::specs::Rules::evaluated))]
@@ -130,10 +126,8 @@ impl<
         let from = tokens.start();
         let value = self.value(tokens, false)?;
         tokens.ending()?;
-        Ok(Stmt {
-            span: tokens.span_from(from),
-            kind: StmtKind::Eval(value),
-        })
+        let kind = StmtKind::Eval(value);
+        Ok(Stmt::new(self.exprs.alloc, tokens.span_from(from), kind)?)
     }
 
     // A statement that may be the body of another.
@@ -147,13 +141,13 @@ impl<
         ensures { Reads (spec.statement real self.now.exprs.room (bodies real self.now.exprs.room) place tokens.old) result tokens.new }
     {
         match tokens.peek() {
-            Lexeme::Semi => empty(tokens),
+            Lexeme::Semi => empty(self.exprs.alloc, tokens),
             Lexeme::LBrace => self.nested(tokens, place),
             Lexeme::If => self.if_statement(tokens, place),
             Lexeme::While => self.while_statement(tokens, place),
             Lexeme::For => self.for_statement(tokens, place),
-            Lexeme::Break => break_statement(tokens, place),
-            Lexeme::Continue => continue_statement(tokens, place),
+            Lexeme::Break => break_statement(self.exprs.alloc, tokens, place),
+            Lexeme::Continue => continue_statement(self.exprs.alloc, tokens, place),
             Lexeme::Return => self.return_statement(tokens, place),
             _ => self.evaluated(tokens),
         }

@@ -12,7 +12,6 @@ use std::alloc::Global;
 use sv_ast::{Expr, Kind, ParseError, Stmt, StmtKind, Stmts};
 use sv_expr::Form;
 use sv_lex::{Lexeme, Tokens};
-use sv_list::Boxed;
 
 impl<
     F: Fn(Global, &mut Tokens<'_>, usize, Form) -> Result<Expr, ParseError>,
@@ -32,10 +31,8 @@ impl<
         }
         let found = self.variables(tokens, false)?;
         tokens.ending()?;
-        Ok(Stmt {
-            span: tokens.span_from(from),
-            kind: StmtKind::Export(found),
-        })
+        let kind = StmtKind::Export(found);
+        Ok(Stmt::new(self.exprs.alloc, tokens.span_from(from), kind)?)
     }
 
     #[tactic(auto, unfolding(crate::specs::Script::reaction))]
@@ -46,11 +43,8 @@ impl<
         let from = tokens.start();
         tokens.take();
         let inner = self.statement(tokens, TOP)?;
-        let inner = Boxed::new(self.exprs.alloc, inner)?;
-        Ok(Stmt {
-            span: tokens.span_from(from),
-            kind: StmtKind::React(inner),
-        })
+        let kind = StmtKind::React(inner);
+        Ok(Stmt::new(self.exprs.alloc, tokens.span_from(from), kind)?)
     }
 
     // An item of a component's script.

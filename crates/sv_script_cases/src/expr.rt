@@ -9,7 +9,7 @@ use sv_expr::{Form, NEST_LIMIT};
 use sv_lex::Tokens;
 
 fn name(of: &Expr) -> &'static str {
-    match &of.kind {
+    match of.kind.get() {
         ExprKind::Undefined => "Undefined",
         ExprKind::Null => "Null",
         ExprKind::Bool(_) => "Bool",
@@ -78,34 +78,34 @@ fn push_links(links: &[Link], names: &mut String) -> Result<(), AllocError> {
 
 // Appends the names of an expression's parts.
 fn push_parts(of: &Expr, names: &mut String) -> Result<(), AllocError> {
-    match &of.kind {
+    match of.kind.get() {
         ExprKind::List(items) => push_entries(items.as_slice(), names),
         ExprKind::Obj(fields) => push_fields(fields.as_slice(), names),
         ExprKind::Template(parts) => push_all(parts.as_slice(), names),
         ExprKind::Chain { first, rest } => {
-            push_name(first.get(), names)?;
+            push_name(first, names)?;
             push_links(rest.as_slice(), names)
         }
         ExprKind::Call { of, args } => {
-            push_name(of.get(), names)?;
+            push_name(of, names)?;
             push_all(args.as_slice(), names)
         }
         ExprKind::Choose { test, yes, no } => {
-            push_name(test.get(), names)?;
-            push_name(yes.get(), names)?;
-            push_name(no.get(), names)
+            push_name(test, names)?;
+            push_name(yes, names)?;
+            push_name(no, names)
         }
         ExprKind::Index { of, at } => {
-            push_name(of.get(), names)?;
-            push_name(at.get(), names)
+            push_name(of, names)?;
+            push_name(at, names)
         }
-        ExprKind::Not(of) | ExprKind::Minus(of) => push_name(of.get(), names),
-        ExprKind::Member { of, .. } => push_name(of.get(), names),
-        ExprKind::Assign { value, .. } => push_name(value.get(), names),
+        ExprKind::Not(of) | ExprKind::Minus(of) => push_name(of, names),
+        ExprKind::Member { of, .. } => push_name(of, names),
+        ExprKind::Assign { value, .. } => push_name(value, names),
         ExprKind::Arrow {
             body: Body::Value(value),
             ..
-        } => push_name(value.get(), names),
+        } => push_name(value, names),
         _ => Ok(()),
     }
 }

@@ -7,7 +7,7 @@ use sv_base::Names;
 use sv_script::{parse_expr, parse_expr_in, parse_module_script, parse_script};
 
 fn name(of: &Stmt) -> &'static str {
-    match &of.kind {
+    match of.kind.get() {
         StmtKind::Empty => "Empty",
         StmtKind::Block(_) => "Block",
         StmtKind::Let(_) => "Let",
@@ -47,20 +47,20 @@ fn push_arms(arms: &[Arm], names: &mut String) -> Result<(), AllocError> {
 
 // Appends the names of a statement's parts.
 fn push_parts(of: &Stmt, names: &mut String) -> Result<(), AllocError> {
-    match &of.kind {
+    match of.kind.get() {
         StmtKind::Block(stmts) => push_all(stmts.as_slice(), names),
         StmtKind::Func { body, .. } => push_all(body.as_slice(), names),
         StmtKind::If { arms, last } => {
             push_arms(arms.as_slice(), names)?;
             match last {
-                Some(last) => push_name(last.get(), names),
+                Some(last) => push_name(last, names),
                 None => Ok(()),
             }
         }
-        StmtKind::While { body, .. } => push_name(body.get(), names),
-        StmtKind::For { body, .. } => push_name(body.get(), names),
-        StmtKind::Each { body, .. } => push_name(body.get(), names),
-        StmtKind::React(inner) => push_name(inner.get(), names),
+        StmtKind::While { body, .. } => push_name(body, names),
+        StmtKind::For { body, .. } => push_name(body, names),
+        StmtKind::Each { body, .. } => push_name(body, names),
+        StmtKind::React(inner) => push_name(inner, names),
         StmtKind::Return(Some(_)) => push_word(names, "value"),
         _ => Ok(()),
     }
@@ -341,7 +341,7 @@ fn arrow_names(alloc: Global, tree: &Expr) -> Result<String, AllocError> {
     if let ExprKind::Arrow {
         body: Body::Block(stmts),
         ..
-    } = &tree.kind
+    } = tree.kind.get()
     {
         push_all(stmts.as_slice(), &mut names)?;
     }

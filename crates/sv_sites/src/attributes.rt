@@ -30,7 +30,7 @@ fn part_name(part: &AttrPart) -> Option<Ref>
     ensures { result ≡ spec.part_name part.now }
 {
     match part {
-        AttrPart::Show { value, .. } => match &value.kind {
+        AttrPart::Show { value, .. } => match value.kind.get() {
             ExprKind::Read(name) => Some(*name),
             _ => None,
         },

@@ -74,7 +74,7 @@ pub fn children_of(
 fn add_stmt(children: &mut Children, files: &[SourceFile], stmt: &Stmt) -> Result<(), NoMemory>
     ensures { OnOk result (children.new ≡ spec.with_points children.old (spec.points_of files.now stmt.now)) }
 {
-    match &stmt.kind {
+    match stmt.kind.get() {
         StmtKind::Import(import) => add_import(children, files, import),
         _ => Ok(()),
     }

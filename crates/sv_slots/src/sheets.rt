@@ -109,7 +109,7 @@ fn add_props(props: &mut Distinct, stmts: &[Stmt]) -> Result<(), NoMemory>
 fn add_exported(props: &mut Distinct, stmt: &Stmt) -> Result<(), NoMemory>
     ensures { OnOk result (props.new ≡ with_names props.old (spec.prop_names stmt.now)) }
 {
-    match &stmt.kind {
+    match stmt.kind.get() {
         StmtKind::Export(decls) => add_decls(props, decls.as_slice()),
         _ => Ok(()),
     }

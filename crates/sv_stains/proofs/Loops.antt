@@ -12,16 +12,16 @@ use Rattle.sv_purity.specs.Calls.{Table}
 use Rattle.sv_stains.specs.declared.notes.Sign.{Sign}
 use Rattle.sv_stains.specs.Signs.{Found, Asked, Part, place, optional, given, followed, for_head, body, entry, expr_kind, field, stmt_kind, arm, decl, expr, link, stmt, asked, stmt_part, stmt_kind_part}
 
-pub each_signs : (kind : AnyStmt) (name : Named) (fixed : Bool) (list : Expr) (turn turn' : Stmt) (table : Table) (handed : Bool) (u0 u1 u2 : List Sign) (s0 s1 s2 : List Ref) → kind ≡ StmtKind.Each name fixed list turn → turn' ≡ turn
+pub each_signs : (kind : AnyStmt) (name : Named) (fixed : Bool) (list : Expr) (turn : Stmt) (table : Table) (handed : Bool) (u0 u1 u2 : List Sign) (s0 s1 s2 : List Ref) → kind ≡ StmtKind.Each name fixed list turn
     → s1 ≡ with_names s0 (named name ∷ []) → s2 ≡ s1
-    → u1 ≡ u0 ++ (asked list).signs (place table handed s1) → u2 ≡ u1 ++ (stmt_part turn').signs (place table handed s2) → u2 ≡ u0 ++ (stmt_kind_part kind).signs (place table handed s0)
+    → u1 ≡ u0 ++ (asked list).signs (place table handed s1) → u2 ≡ u1 ++ (stmt_part turn).signs (place table handed s2) → u2 ≡ u0 ++ (stmt_kind_part kind).signs (place table handed s0)
 unfolding StmtKind.roll-StmtKind denote.Hole.Carrier.roll
-each_signs kind name fixed list turn turn' table handed u0 u1 u2 s0 s1 s2 k b e1 e2 a1 a2 =
+each_signs kind name fixed list turn table handed u0 u1 u2 s0 s1 s2 k e1 e2 a1 a2 =
     let whole : (stmt_kind_part kind).signs (place table handed s0) ≡ (asked list).signs (place table handed s1) ++ (stmt_part turn).signs (place table handed s1) =
     ap (λ x. (stmt_kind_part x).signs (place table handed s0)) k
     ∙ ap (λ p. p.signs (place table handed s0)) (fold-roll-StmtKind Part Found Asked Found Part Found Part Asked Found Part body entry expr_kind field stmt_kind arm decl expr link stmt (StmtKind-F.Each name fixed list turn))
     ∙ ap (λ s. (asked list).signs (place table handed s) ++ (stmt_part turn).signs (place table handed s)) (sym e1) in
-    a2 ∙ ap (λ s. u1 ++ (stmt_part turn').signs (place table handed s)) e2 ∙ ap (λ t. u1 ++ (stmt_part t).signs (place table handed s1)) b
+    a2 ∙ ap (λ s. u1 ++ (stmt_part turn).signs (place table handed s)) e2
     ∙ ap (λ u. u ++ (stmt_part turn).signs (place table handed s1)) a1
     ∙ append_assoc u0 ((asked list).signs (place table handed s1)) ((stmt_part turn).signs (place table handed s1)) ∙ ap (λ x. u0 ++ x) (sym whole)
 
@@ -40,11 +40,11 @@ for_is (Some f) None (Some n) turn table handed s0 = ap (λ p. p.signs (place ta
 for_is (Some f) (Some e) None turn table handed s0 = ap (λ p. p.signs (place table handed s0)) (fold-roll-StmtKind Part Found Asked Found Part Found Part Asked Found Part body entry expr_kind field stmt_kind arm decl expr link stmt (StmtKind-F.For (Some f) (Some e) None turn))
 for_is (Some f) (Some e) (Some n) turn table handed s0 = ap (λ p. p.signs (place table handed s0)) (fold-roll-StmtKind Part Found Asked Found Part Found Part Asked Found Part body entry expr_kind field stmt_kind arm decl expr link stmt (StmtKind-F.For (Some f) (Some e) (Some n) turn))
 
-pub for_signs : (kind : AnyStmt) (first : Option Stmt) (test next : Option Expr) (turn turn' : Stmt) (table : Table) (handed : Bool) (u0 u1 u2 u3 u4 : List Sign) (s0 s1 s2 s3 s4 : List Ref) → kind ≡ StmtKind.For first test next turn → turn' ≡ turn
+pub for_signs : (kind : AnyStmt) (first : Option Stmt) (test next : Option Expr) (turn : Stmt) (table : Table) (handed : Bool) (u0 u1 u2 u3 u4 : List Sign) (s0 s1 s2 s3 s4 : List Ref) → kind ≡ StmtKind.For first test next turn
     → s1 ≡ with_names s0 (optional (option_map stmt_part first)).declares → s2 ≡ s1 → s3 ≡ s2 → s4 ≡ s3
     → u1 ≡ u0 ++ (optional (option_map stmt_part first)).signs (place table handed s1) → u2 ≡ u1 ++ given (option_map asked test) (place table handed s2) → u3 ≡ u2 ++ given (option_map asked next) (place table handed s3)
-    → u4 ≡ u3 ++ (stmt_part turn').signs (place table handed s4) → u4 ≡ u0 ++ (stmt_kind_part kind).signs (place table handed s0)
-for_signs kind first test next turn turn' table handed u0 u1 u2 u3 u4 s0 s1 s2 s3 s4 k b e1 e2 e3 e4 a1 a2 a3 a4 =
+    → u4 ≡ u3 ++ (stmt_part turn).signs (place table handed s4) → u4 ≡ u0 ++ (stmt_kind_part kind).signs (place table handed s0)
+for_signs kind first test next turn table handed u0 u1 u2 u3 u4 s0 s1 s2 s3 s4 k e1 e2 e3 e4 a1 a2 a3 a4 =
     let at = λ (s : List Ref). place table handed s in
     let head = (optional (option_map stmt_part first)).signs in
     let f = given (option_map asked test) in
@@ -55,5 +55,5 @@ for_signs kind first test next turn turn' table handed u0 u1 u2 u3 u4 s0 s1 s2 s
     ∙ ap (λ s. followed head (followed f (followed g (stmt_part turn).signs)) (at s)) (sym e1) in
     let b1 : u2 ≡ (u0 ++ head (at s1)) ++ f (at s1) = a2 ∙ ap (λ s. u1 ++ f (at s)) e2 ∙ ap (λ u. u ++ f (at s1)) a1 in
     let b2 : u3 ≡ ((u0 ++ head (at s1)) ++ f (at s1)) ++ g (at s1) = a3 ∙ ap (λ s. u2 ++ g (at s)) (e3 ∙ e2) ∙ ap (λ u. u ++ g (at s1)) b1 in
-    a4 ∙ ap (λ s. u3 ++ (stmt_part turn').signs (at s)) (e4 ∙ e3 ∙ e2) ∙ ap (λ t. u3 ++ (stmt_part t).signs (at s1)) b ∙ ap (λ u. u ++ (stmt_part turn).signs (at s1)) b2
+    a4 ∙ ap (λ s. u3 ++ (stmt_part turn).signs (at s)) (e4 ∙ e3 ∙ e2) ∙ ap (λ u. u ++ (stmt_part turn).signs (at s1)) b2
     ∙ regroup u0 (head (at s1)) (f (at s1)) (g (at s1)) ((stmt_part turn).signs (at s1)) ∙ ap (λ x. u0 ++ x) (sym whole)

@@ -64,7 +64,7 @@ fn add_stmt(
 ) -> Result<(), NoMemory>
     ensures { OnOk result (functions.new ≡ functions.old ++ spec.stmt_functions names.now file stmt.now) }
 {
-    match &stmt.kind {
+    match stmt.kind.get() {
         StmtKind::Func { name, exported, .. } => {
             let signs = signs_of_function(alloc, names, stmt)?;
             functions.push(Function {
@@ -111,7 +111,7 @@ fn add_decl(
     let Some(value) = &decl.first else {
         return Ok(());
     };
-    match &value.kind {
+    match value.kind.get() {
         ExprKind::Arrow { .. } => {
             let signs = signs_of_arrow(alloc, names, value)?;
             functions.push(Function {

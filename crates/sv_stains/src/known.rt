@@ -185,7 +185,7 @@ fn add_stmt(
     requires { length given.now ≡ length files.now }
     ensures { OnOk result (known.new ≡ spec.with_points known.old (spec.stmt_imported files.now given.now stmt.now)) }
 {
-    match &stmt.kind {
+    match stmt.kind.get() {
         StmtKind::Import(import) => add_import(known, given, files, import),
         _ => Ok(()),
     }

@@ -6,7 +6,6 @@ ghost use Rattle.sv_stains.specs.Signs.{optional, together, body_part, decl_part
 
 use sv_ast::{Body, Decl, Import, Named, Ref, Spec, Stmt, StmtKind};
 use sv_base::NoMemory;
-use sv_list::Boxed;
 use sv_names::Distinct;
 
 /// Declares a name.
@@ -57,7 +56,7 @@ fn declare_import(locals: &mut Distinct, import: &Import) -> Result<(), NoMemory
 fn declare_stmt(locals: &mut Distinct, stmt: &Stmt) -> Result<(), NoMemory>
     ensures { OnOk result (locals.new ≡ with_names locals.old (stmt_part stmt.now).declares) }
 {
-    declare_kind(locals, &stmt.kind)
+    declare_kind(locals, stmt.kind.get())
 }
 
 fn declare_kind(locals: &mut Distinct, kind: &StmtKind) -> Result<(), NoMemory>
@@ -104,14 +103,11 @@ pub(crate) fn declare_body(locals: &mut Distinct, body: &Body) -> Result<(), NoM
 }
 
 /// Declares what the head of a `for` declares.
-pub(crate) fn declare_first(
-    locals: &mut Distinct,
-    stmt: &Option<Boxed<Stmt>>,
-) -> Result<(), NoMemory>
+pub(crate) fn declare_first(locals: &mut Distinct, stmt: &Option<Stmt>) -> Result<(), NoMemory>
     ensures { OnOk result (locals.new ≡ with_names locals.old (optional (option_map stmt_part stmt.now)).declares) }
 {
     match stmt {
-        Some(stmt) => declare_stmt(locals, stmt.get()),
+        Some(stmt) => declare_stmt(locals, stmt),
         None => Ok(()),
     }
 }

@@ -102,9 +102,9 @@ pub(crate) fn note_own(
     ensures locals { OnOk result (walk.new.locals ≡ walk.old.locals) }
     ensures signs { OnOk result (walk.new.signs ≡ walk.old.signs ++ spec.own_signs (spec.asked of.now).form (map (λ arg. arg.form) (map spec.asked args.now)) names.now walk.old.locals) }
 {
-    match &of.kind {
+    match of.kind.get() {
         ExprKind::Read(name) => note_by_name(walk, Sign::Calls(*name), *name),
-        ExprKind::Member { of, word } => note_member(walk, of.get(), *word, args, names),
+        ExprKind::Member { of, word } => note_member(walk, of, *word, args, names),
         _ => note(walk, Sign::Breaks),
     }
 }
@@ -136,7 +136,7 @@ fn note_member(
 fn names_math(of: &Expr, names: &Names) -> bool
     ensures { result ≡ spec.is_math (spec.asked of.now).form names.now }
 {
-    match &of.kind {
+    match of.kind.get() {
         ExprKind::Read(Ref::Plain(name)) => is_math(names, *name),
         _ => false,
     }
@@ -157,7 +157,7 @@ fn note_function(walk: &mut Walk, of: &Expr) -> Result<(), NoMemory>
     ensures locals { OnOk result (walk.new.locals ≡ walk.old.locals) }
     ensures signs { OnOk result (walk.new.signs ≡ walk.old.signs ++ spec.hands (spec.asked of.now).form walk.old.locals) }
 {
-    match &of.kind {
+    match of.kind.get() {
         ExprKind::Read(name) => note_by_name(walk, Sign::Hands(*name), *name),
         ExprKind::Arrow { .. } => Ok(()),
         _ => note(walk, Sign::Breaks),
@@ -168,7 +168,7 @@ fn note_function(walk: &mut Walk, of: &Expr) -> Result<(), NoMemory>
 pub(crate) fn takes_function(of: &Expr, names: &Names) -> bool
     ensures { result ≡ spec.takes_function (spec.asked of.now).form names.now }
 {
-    match &of.kind {
+    match of.kind.get() {
         ExprKind::Member { word, .. } => is_list_call(names, *word),
         _ => false,
     }

@@ -8,7 +8,7 @@ use crate::notes::{Sign, Walk, note_own, note_read, note_set, start, takes_funct
 use std::alloc::Global;
 use sv_ast::{Arm, Body, Decl, Entry, Expr, ExprKind, Field, Link, Named, Stmt, StmtKind};
 use sv_base::{Names, NoMemory};
-use sv_list::{Boxed, Items};
+use sv_list::Items;
 
 /// The signs of a function that a statement declares.
 pub(crate) fn signs_of_function(
@@ -41,7 +41,7 @@ fn find(walk: &mut Walk, of: &Expr, names: &Names, handed: bool) -> Result<(), N
     ensures locals { OnOk result (walk.new.locals ≡ walk.old.locals) }
     ensures signs { OnOk result (walk.new.signs ≡ walk.old.signs ++ (spec.asked of.now).signs (spec.place names.now handed walk.old.locals)) }
 {
-    find_kind(walk, &of.kind, names, handed)
+    find_kind(walk, of.kind.get(), names, handed)
 }
 
 #[cycle(walk)]
@@ -64,28 +64,28 @@ fn find_kind(walk: &mut Walk, kind: &ExprKind, names: &Names, handed: bool) -> R
         }
         ExprKind::Assign { target, value, .. } => {
             note_set(walk, *target, handed)?;
-            find(walk, value.get(), names, handed)
+            find(walk, value, names, handed)
         }
         ExprKind::Bump { target, .. } => note_set(walk, *target, handed),
         ExprKind::Chain { first, rest } => {
-            find(walk, first.get(), names, handed)?;
+            find(walk, first, names, handed)?;
             find_links(walk, rest.as_slice(), names, handed)
         }
-        ExprKind::Not(of) | ExprKind::Minus(of) => find(walk, of.get(), names, handed),
+        ExprKind::Not(of) | ExprKind::Minus(of) => find(walk, of, names, handed),
         ExprKind::Choose { test, yes, no } => {
-            find(walk, test.get(), names, handed)?;
-            find(walk, yes.get(), names, handed)?;
-            find(walk, no.get(), names, handed)
+            find(walk, test, names, handed)?;
+            find(walk, yes, names, handed)?;
+            find(walk, no, names, handed)
         }
-        ExprKind::Member { of, .. } => find(walk, of.get(), names, handed),
+        ExprKind::Member { of, .. } => find(walk, of, names, handed),
         ExprKind::Index { of, at } => {
-            find(walk, of.get(), names, handed)?;
-            find(walk, at.get(), names, handed)
+            find(walk, of, names, handed)?;
+            find(walk, at, names, handed)
         }
         ExprKind::Call { of, args } => {
-            note_own(walk, of.get(), args.as_slice(), names)?;
-            find(walk, of.get(), names, handed)?;
-            find_arguments(walk, args.as_slice(), of.get(), names, handed)
+            note_own(walk, of, args.as_slice(), names)?;
+            find(walk, of, names, handed)?;
+            find_arguments(walk, args.as_slice(), of, names, handed)
         }
     }
 }
@@ -204,7 +204,7 @@ fn find_taken(walk: &mut Walk, of: &Expr, names: &Names, handed: bool) -> Result
     ensures locals { OnOk result (walk.new.locals ≡ walk.old.locals) }
     ensures signs { OnOk result (walk.new.signs ≡ walk.old.signs ++ spec.taken (spec.asked of.now).form (spec.asked of.now).signs (spec.place names.now handed walk.old.locals)) }
 {
-    match &of.kind {
+    match of.kind.get() {
         ExprKind::Arrow { params, body } => find_arrow(walk, params.as_slice(), body, names, true),
         _ => find(walk, of, names, handed),
     }
@@ -235,7 +235,7 @@ fn find_body(walk: &mut Walk, body: &Body, names: &Names, handed: bool) -> Resul
     ensures signs { OnOk result (walk.new.signs ≡ walk.old.signs ++ (spec.body_part body.now).signs (spec.place names.now handed walk.old.locals)) }
 {
     match body {
-        Body::Value(value) => find(walk, value.get(), names, handed),
+        Body::Value(value) => find(walk, value, names, handed),
         Body::Block(stmts) => find_stmts(walk, stmts.as_slice(), names, handed),
     }
 }
@@ -276,7 +276,7 @@ fn find_stmt(walk: &mut Walk, of: &Stmt, names: &Names, handed: bool) -> Result<
     ensures locals { OnOk result (walk.new.locals ≡ walk.old.locals) }
     ensures signs { OnOk result (walk.new.signs ≡ walk.old.signs ++ (spec.stmt_part of.now).signs (spec.place names.now handed walk.old.locals)) }
 {
-    find_stmt_kind(walk, &of.kind, names, handed)
+    find_stmt_kind(walk, of.kind.get(), names, handed)
 }
 
 #[cycle(walk)]
@@ -300,7 +300,7 @@ fn find_stmt_kind(
         }
         StmtKind::While { test, body } => {
             find(walk, test, names, handed)?;
-            find_stmt(walk, body.get(), names, handed)
+            find_stmt(walk, body, names, handed)
         }
         StmtKind::For {
             first,
@@ -313,7 +313,7 @@ fn find_stmt_kind(
             find_optional(walk, first, names, handed)?;
             find_given(walk, test, names, handed)?;
             find_given(walk, next, names, handed)?;
-            find_stmt(walk, body.get(), names, handed)?;
+            find_stmt(walk, body, names, handed)?;
             walk.locals.cut(open);
             Ok(())
         }
@@ -326,14 +326,14 @@ fn find_stmt_kind(
             let open = walk.locals.len();
             declare(&mut walk.locals, name)?;
             find(walk, list, names, handed)?;
-            find_stmt(walk, body.get(), names, handed)?;
+            find_stmt(walk, body, names, handed)?;
             walk.locals.cut(open);
             Ok(())
         }
         StmtKind::Return(value) => find_given(walk, value, names, handed),
         StmtKind::Eval(value) => find(walk, value, names, handed),
         StmtKind::Export(decls) => find_decls(walk, decls.as_slice(), names, handed),
-        StmtKind::React(of) => find_stmt(walk, of.get(), names, handed),
+        StmtKind::React(of) => find_stmt(walk, of, names, handed),
         StmtKind::Func { params, body, .. } => {
             find_block(walk, params.as_slice(), body.as_slice(), names, false)
         }
@@ -343,7 +343,7 @@ fn find_stmt_kind(
 #[cycle(walk)]
 fn find_optional(
     walk: &mut Walk,
-    of: &Option<Boxed<Stmt>>,
+    of: &Option<Stmt>,
     names: &Names,
     handed: bool,
 ) -> Result<(), NoMemory>
@@ -351,7 +351,7 @@ fn find_optional(
     ensures signs { OnOk result (walk.new.signs ≡ walk.old.signs ++ (spec.optional (option_map spec.stmt_part of.now)).signs (spec.place names.now handed walk.old.locals)) }
 {
     match of {
-        Some(of) => find_stmt(walk, of.get(), names, handed),
+        Some(of) => find_stmt(walk, of, names, handed),
         None => Ok(()),
     }
 }

@@ -71,7 +71,7 @@ fn variables(alloc: Global, stmts: &[Stmt]) -> Result<Distinct, NoMemory>
 fn add_variables(variables: &mut Distinct, stmt: &Stmt) -> Result<(), NoMemory>
     ensures { OnOk result (variables.new ≡ with_names variables.old (spec.stmt_variables stmt.now)) }
 {
-    match &stmt.kind {
+    match stmt.kind.get() {
         StmtKind::Let(decls) | StmtKind::Export(decls) => add_decls(variables, decls.as_slice()),
         _ => Ok(()),
     }
@@ -109,13 +109,13 @@ fn add_reactive(reactives: &mut Distinct, stmt: &Stmt) -> Result<(), NoMemory>
 fn reactive(stmt: &Stmt) -> Option<Ref>
     ensures { option_to_list result ≡ spec.reactive stmt.now }
 {
-    let StmtKind::React(of) = &stmt.kind else {
+    let StmtKind::React(of) = stmt.kind.get() else {
         return None;
     };
-    let StmtKind::Eval(value) = &of.get().kind else {
+    let StmtKind::Eval(value) = of.kind.get() else {
         return None;
     };
-    match &value.kind {
+    match value.kind.get() {
         ExprKind::Assign {
             target,
             op: AssignOp::Set,

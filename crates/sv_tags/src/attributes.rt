@@ -46,10 +46,7 @@ fn ascii_name(tokens: &mut Tokens<'_>) -> Result<Named, ParseError>
 fn short(alloc: Global, span: Span, found: Named) -> Result<TagAttr, AllocError>
     ensures { IfOk result (λ made. made ≡ spec.short span found) }
 {
-    let read = Expr {
-        span: found.span,
-        kind: ExprKind::Read(Ref::Plain(found.name)),
-    };
+    let read = Expr::new(alloc, found.span, ExprKind::Read(Ref::Plain(found.name)))?;
     Ok(TagAttr {
         span,
         name: found.name,

@@ -30,26 +30,21 @@ pub struct Hole {
 }
 
 #[tactic(auto, unfolding(crate::specs::Holes::read_target))]
-fn read_target(tokens: &mut Tokens<'_>) -> Result<Expr, ParseError>
+fn read_target(alloc: Global, tokens: &mut Tokens<'_>) -> Result<Expr, ParseError>
     ensures { Reads (spec.read_target tokens.old) result tokens.new }
 {
     let from = tokens.start();
     let found = target(tokens)?;
-    Ok(Expr {
-        span: tokens.span_from(from),
-        kind: ExprKind::Read(found),
-    })
+    Ok(Expr::new(alloc, tokens.span_from(from), ExprKind::Read(found))?)
 }
 
 #[tactic(auto, unfolding(crate::specs::Holes::read_name))]
-fn read_name(tokens: &mut Tokens<'_>) -> Result<Expr, ParseError>
+fn read_name(alloc: Global, tokens: &mut Tokens<'_>) -> Result<Expr, ParseError>
     ensures { Reads (spec.read_name tokens.old) result tokens.new }
 {
     let found = tokens.name()?;
-    Ok(Expr {
-        span: found.span,
-        kind: ExprKind::Read(Ref::Plain(found.name)),
-    })
+    let kind = ExprKind::Read(Ref::Plain(found.name));
+    Ok(Expr::new(alloc, found.span, kind)?)
 }
 
 // What the braces hold, in which so many constructs may enclose one another.
@@ -63,8 +58,8 @@ fn filled(
 {
     match filling {
         Filling::Value => expression(alloc, tokens, room),
-        Filling::Target => read_target(tokens),
-        Filling::Name => read_name(tokens),
+        Filling::Target => read_target(alloc, tokens),
+        Filling::Name => read_name(alloc, tokens),
     }
 }
 

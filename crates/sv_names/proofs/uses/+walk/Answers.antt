@@ -33,11 +33,11 @@ find_stmt_kind-returns-in_ok-find_stmt-in-For-clause-scope t c =
 
 pub find_stmt_kind-returns-in_ok-find_stmt-in-For-clause-uses : goal.find_stmt_kind-returns-in_ok-find_stmt-in-For-clause-uses
 find_stmt_kind-returns-in_ok-find_stmt-in-For-clause-uses t c =
-    for_uses c.args.kind.now c.in-For.first c.in-For.test c.in-For.next c.in-For.body c.get-in-For.result.now c.args.walk.now.uses _ _ _ _ c.args.walk.now.scope _ _ _ _ c.in-For.is c.get-in-For.ensures
+    for_uses c.args.kind.now c.in-For.first c.in-For.test c.in-For.next c.in-For.body c.args.walk.now.uses _ _ _ _ c.args.walk.now.scope _ _ _ _ c.in-For.is
     c.in_ok-declare_optional-in-For.ensures c.in_ok-find_optional-in-For.ensures.scope c.in_ok-find_given-in-For.ensures.scope c.in_ok-find_given-in-For-2.ensures.scope
     c.in_ok-find_optional-in-For.ensures.uses c.in_ok-find_given-in-For.ensures.uses c.in_ok-find_given-in-For-2.ensures.uses c.in_ok-find_stmt-in-For.ensures.uses
 
 pub find_stmt_kind-returns-in_ok-find_stmt-in-Each-clause-uses : goal.find_stmt_kind-returns-in_ok-find_stmt-in-Each-clause-uses
 find_stmt_kind-returns-in_ok-find_stmt-in-Each-clause-uses t c =
-    each_uses c.args.kind.now c.in-Each.name c.in-Each.fixed c.in-Each.list c.in-Each.body c.get-in-Each.result.now c.args.walk.now.uses _ _ c.args.walk.now.scope _ _ c.in-Each.is c.get-in-Each.ensures
+    each_uses c.args.kind.now c.in-Each.name c.in-Each.fixed c.in-Each.list c.in-Each.body c.args.walk.now.uses _ _ c.args.walk.now.scope _ _ c.in-Each.is
     c.in_ok-declare-in-Each.ensures c.in_ok-find-in-Each.ensures.scope c.in_ok-find-in-Each.ensures.uses c.in_ok-find_stmt-in-Each.ensures.uses

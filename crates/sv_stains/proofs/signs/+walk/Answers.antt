@@ -36,19 +36,19 @@ find_stmt_kind-returns-in_ok-find_stmt-in-For-clause-locals t c =
 
 pub find_stmt_kind-returns-in_ok-find_stmt-in-For-clause-signs : goal.find_stmt_kind-returns-in_ok-find_stmt-in-For-clause-signs
 find_stmt_kind-returns-in_ok-find_stmt-in-For-clause-signs t c =
-    for_signs c.args.kind.now c.in-For.first c.in-For.test c.in-For.next c.in-For.body c.get-in-For.result.now c.args.names.now c.args.handed c.args.walk.now.signs _ _ _ _ c.args.walk.now.locals _ _ _ _ c.in-For.is c.get-in-For.ensures
+    for_signs c.args.kind.now c.in-For.first c.in-For.test c.in-For.next c.in-For.body c.args.names.now c.args.handed c.args.walk.now.signs _ _ _ _ c.args.walk.now.locals _ _ _ _ c.in-For.is
     c.in_ok-declare_first-in-For.ensures c.in_ok-find_optional-in-For.ensures.locals c.in_ok-find_given-in-For.ensures.locals c.in_ok-find_given-in-For-2.ensures.locals
     c.in_ok-find_optional-in-For.ensures.signs c.in_ok-find_given-in-For.ensures.signs c.in_ok-find_given-in-For-2.ensures.signs c.in_ok-find_stmt-in-For.ensures.signs
 
 pub find_stmt_kind-returns-in_ok-find_stmt-in-Each-clause-signs : goal.find_stmt_kind-returns-in_ok-find_stmt-in-Each-clause-signs
 find_stmt_kind-returns-in_ok-find_stmt-in-Each-clause-signs t c =
-    each_signs c.args.kind.now c.in-Each.name c.in-Each.fixed c.in-Each.list c.in-Each.body c.get-in-Each.result.now c.args.names.now c.args.handed c.args.walk.now.signs _ _ c.args.walk.now.locals _ _ c.in-Each.is c.get-in-Each.ensures
+    each_signs c.args.kind.now c.in-Each.name c.in-Each.fixed c.in-Each.list c.in-Each.body c.args.names.now c.args.handed c.args.walk.now.signs _ _ c.args.walk.now.locals _ _ c.in-Each.is
     c.in_ok-declare-in-Each.ensures c.in_ok-find-in-Each.ensures.locals c.in_ok-find-in-Each.ensures.signs c.in_ok-find_stmt-in-Each.ensures.signs
 
 pub find_kind-returns-in_ok-find-in-Call-clause-signs : goal.find_kind-returns-in_ok-find-in-Call-clause-signs
 find_kind-returns-in_ok-find-in-Call-clause-signs t c =
     on_ok_weaker c.find_arguments.result
-    (call_signs c.args.kind.now c.in-Call.of c.get-in-Call.result.now c.get-in-Call-2.result.now c.get-in-Call-3.result.now c.in-Call.args c.as_slice-in-Call.result.now c.as_slice-in-Call-2.result.now c.args.names.now c.args.handed
-    c.args.walk.now.signs _ _ c.find_arguments.new.walk.signs c.args.walk.now.locals _ _ c.in-Call.is c.get-in-Call.ensures c.as_slice-in-Call.ensures c.get-in-Call-2.ensures c.as_slice-in-Call-2.ensures c.get-in-Call-3.ensures
+    (call_signs c.args.kind.now c.in-Call.of c.in-Call.args c.as_slice-in-Call.result.now c.as_slice-in-Call-2.result.now c.args.names.now c.args.handed
+    c.args.walk.now.signs _ _ c.find_arguments.new.walk.signs c.args.walk.now.locals _ _ c.in-Call.is c.as_slice-in-Call.ensures c.as_slice-in-Call-2.ensures
     c.in_ok-note_own-in-Call.ensures.locals c.in_ok-find-in-Call.ensures.locals c.in_ok-note_own-in-Call.ensures.signs c.in_ok-find-in-Call.ensures.signs)
     c.find_arguments.ensures.signs
