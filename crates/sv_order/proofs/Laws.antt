@@ -14,7 +14,7 @@ use Rattle.sv_visits.proofs.Visiting.{visits-reach}
 use Rattle.sv_visits.proofs.Cycling.{first-map}
 use Rattle.sv_order.specs.declared.reads.Reads.{Reads}
 use Rattle.sv_order.specs.ReactiveOrder.{Before, before_of, IsOrder, IsEachOnce, IsBehind}
-use Rattle.sv_order.specs.Points.{IsTwoStep}
+use Rattle.sv_order.specs.Points.{IsTwoStep, IsFound}
 use Rattle.sv_order.proofs.TwoSteps.{visits-statements}
 use Rattle.sv_order.proofs.Placing.{times, times-absent, times-present, visits-once, visits-below, visits-behind, visits-acyclic}
 use Rattle.sv_order.proofs.Circles.{cycle-earlier, first-only}
@@ -59,14 +59,10 @@ points-cycle list links points cycle steps first e =
     (subst (IsFirstCycle (λ s t. (t < length list) × (is_in s (before_of list t) ≡ true))) (sym e) (first-only (length list) (before_of list) (links_of links) steps points first))
 
 -- what came of the visits
-pub found-order : (list : List Reads) (links now : List (List ℕ)) (v : Visited) (points : Vec ℕ Global) (slice order : List ℕ) → IsTwoStep (length list) (before_of list) (links_of links) → now ≡ links → IsVisited now (length list) v
-    → v ≡ Order points → slice ≡ points.items → order ≡ filter (λ p. nat_lt p (length list)) slice → IsOrder list order
-found-order list links now v points slice order steps same visited is read e =
-    let visits : Visits (links_of links) [] (range_with_len 0 (length list)) points.items = subst (λ z. Visits (links_of z) [] (range_with_len 0 (length list)) points.items) same (subst (IsVisited now (length list)) is visited) in
-    points-order list links points.items order steps visits (e ∙ ap (filter (λ p. nat_lt p (length list))) read)
+pub found-order : (list : List Reads) (v : Visited) (points : Vec ℕ Global) (slice order : List ℕ) → IsFound list v → v ≡ Order points → slice ≡ points.items → order ≡ filter (λ p. nat_lt p (length list)) slice → IsOrder list order
+found-order list v points slice order found is read e =
+    points-order list found.links points.items order found.two (subst (IsVisited found.links (length list)) is found.visited) (e ∙ ap (filter (λ p. nat_lt p (length list))) read)
 
-pub found-cycle : (list : List Reads) (links now : List (List ℕ)) (v : Visited) (points : Vec ℕ Global) (slice cycle : List ℕ) → IsTwoStep (length list) (before_of list) (links_of links) → now ≡ links → IsVisited now (length list) v
-    → v ≡ Cycle points → slice ≡ points.items → cycle ≡ filter (λ p. nat_lt p (length list)) slice → IsFirstCycle (Before list) cycle
-found-cycle list links now v points slice cycle steps same visited is read e =
-    let first : IsFirstCycle (λ p q. IsLink links q p) points.items = subst (λ z. IsFirstCycle (λ p q. IsLink z q p) points.items) same (subst (IsVisited now (length list)) is visited) in
-    points-cycle list links points.items cycle steps first (e ∙ ap (filter (λ p. nat_lt p (length list))) read)
+pub found-cycle : (list : List Reads) (v : Visited) (points : Vec ℕ Global) (slice cycle : List ℕ) → IsFound list v → v ≡ Cycle points → slice ≡ points.items → cycle ≡ filter (λ p. nat_lt p (length list)) slice → IsFirstCycle (Before list) cycle
+found-cycle list v points slice cycle found is read e =
+    points-cycle list found.links points.items cycle found.two (subst (IsVisited found.links (length list)) is found.visited) (e ∙ ap (filter (λ p. nat_lt p (length list))) read)

@@ -1,13 +1,15 @@
 -- Statements and names as points: a statement is linked to the names that it needs, and a name to the statements that assign
 -- it. So as many links serve as names are written, where many statements share a name.
-use Rattle.std.specs.Prelude.{◌≡◌, ℕ, ◌+◌, ◌<◌, ◌≤◌, Bool, true, false, List, [], ◌∷◌, ◌++◌, Some, position, ◌==◌, if◌then◌else◌}
+use Rattle.std.specs.Prelude.{◌≡◌, ℕ, ◌+◌, ◌<◌, ◌≤◌, Bool, true, false, List, [], ◌∷◌, ◌++◌, length, Some, position, ◌==◌, if◌then◌else◌}
 use Rattle.std.specs.List.{flat_map, filter_map}
 use Rattle.std.specs.Option.{option_map}
 use Rattle.sv_ast.specs.declared.names.Ref.{Ref}
 use Rattle.sv_visits.specs.Links.{is_in, links_of, IsLink}
+use Rattle.sv_visits.specs.Visited.{IsVisited}
+use Rattle.sv_visits.specs.declared.outcome.Visited.{Visited}
 use Rattle.sv_order.specs.declared.reads.Reads.{Reads}
 use Rattle.sv_names.specs.Distinct.{same_ref, has}
-use Rattle.sv_order.specs.ReactiveOrder.{sets_of}
+use Rattle.sv_order.specs.ReactiveOrder.{sets_of, before_of}
 
 -- names that were added to others
 pub record Keeps (old more new : List Ref) : Type 0 where
@@ -23,6 +25,12 @@ pub record IsTwoStep (count : ℕ) (before links : ℕ → List ℕ) : Type 0 wh
   pub two : (t : ℕ) → t < count → flat_map links (links t) ≡ before t
   pub down : (t q : ℕ) → t < count → is_in q (links t) ≡ true → count ≤ q
   pub up : (p q : ℕ) → count ≤ p → is_in q (links p) ≡ true → q < count
+
+-- what came of visits of points, of which the statements are the first
+pub record IsFound (list : List Reads) (found : Visited) : Type 0 where
+  pub links : List (List ℕ)
+  pub two : IsTwoStep (length list) (before_of list) (links_of links)
+  pub visited : IsVisited links (length list) found
 
 -- whether a number is the last of a list
 abbrev pub is_last : List ℕ → ℕ → Bool

@@ -1,6 +1,6 @@
 -- The order of reactive statements, by the variables that each assigns and uses itself (Svelte 4 docs, '$: marks a statement
 -- as reactive'). A statement is named by its place in the list.
-use Rattle.std.specs.Prelude.{◌≡◌, ℕ, ◌==◌, not, Bool, true, false, List, [], ◌∷◌, ◌++◌, length, map, filter, slice_index_or, count_by, nat_lt, if◌then◌else◌}
+use Rattle.std.specs.Prelude.{◌≡◌, ℕ, ◌==◌, not, true, false, List, [], ◌∷◌, ◌++◌, length, map, filter, slice_index_or, count_by, nat_lt, if◌then◌else◌}
 use Rattle.std.specs.List.{flat_map, range_with_len}
 use Rattle.sv_ast.specs.declared.names.Ref.{Ref}
 use Rattle.sv_names.specs.Distinct.{has}

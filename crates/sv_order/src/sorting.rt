@@ -1,6 +1,7 @@
 // The order of reactive statements.
-ghost use Rattle.std.specs.Prelude.{◌≡◌, ℕ, List, IfOk, IfErr, OnOk, filter, nat_lt};
+ghost use Rattle.std.specs.Prelude.{◌≡◌, ◌<◌, ◌^◌, ℕ, List, length, IfOk, IfErr, OnOk, filter, nat_lt};
 ghost use Rattle.sv_visits.specs.Cycle.{IsCycle, IsFirstCycle};
+ghost use Rattle.sv_order.specs.Points.{IsFound};
 ghost use Rattle.sv_order.specs.ReactiveOrder.{Before, IsOrder, IsEachOnce, IsBehind, IsCause};
 
 use crate::links::statement_links;
@@ -25,16 +26,26 @@ pub fn order(alloc: Global, list: &[Reads]) -> Result<Vec<u32>, OrderError>
     ensures acyclic { OnOk result ((cycle : List ℕ) → IsCycle (Before list.now) cycle → ⊥) }
     ensures cycle { IfErr result (IsCause list.now) }
 {
-    let names = assigned_names(alloc, list)?;
-    if list.len() > POINT_LIMIT || names.len() > POINT_LIMIT - list.len() {
-        return Err(OrderError::NoMemory);
-    }
+    let found = visited(alloc, list)?;
     let count = list.len() as u32;
-    let links = statement_links(alloc, list, &names)?;
-    match visit(alloc, &links, count)? {
+    match found {
         Visited::Order(points) => Ok(statements_of(alloc, &points, count)?),
         Visited::Cycle(points) => Err(OrderError::Cycle(statements_of(alloc, &points, count)?)),
     }
+}
+
+// What comes of visits of the statements, with the names that they assign as points between them.
+fn visited(alloc: Global, list: &[Reads]) -> Result<Visited, NoMemory>
+    ensures few { OnOk result (length list.now < 2 ^ 32) }
+    ensures found { IfOk result (IsFound list.now) }
+{
+    let names = assigned_names(alloc, list)?;
+    if list.len() > POINT_LIMIT || names.len() > POINT_LIMIT - list.len() {
+        return Err(NoMemory);
+    }
+    let count = list.len() as u32;
+    let links = statement_links(alloc, list, &names)?;
+    visit(alloc, &links, count)
 }
 
 // The points that are statements.
