@@ -133,61 +133,69 @@ fn are_plain_bytes(text: &str) -> bool
     text.bytes().all(is_plain_byte)
 }
 
+// The words that are no names.
+const RESERVED: [&str; 49] = [
+    "break",
+    "case",
+    "catch",
+    "class",
+    "const",
+    "continue",
+    "debugger",
+    "default",
+    "delete",
+    "do",
+    "else",
+    "enum",
+    "export",
+    "extends",
+    "false",
+    "finally",
+    "for",
+    "function",
+    "if",
+    "import",
+    "in",
+    "instanceof",
+    "let",
+    "new",
+    "null",
+    "return",
+    "super",
+    "switch",
+    "this",
+    "throw",
+    "true",
+    "try",
+    "typeof",
+    "undefined",
+    "var",
+    "void",
+    "while",
+    "with",
+    "yield",
+    "await",
+    "static",
+    "implements",
+    "interface",
+    "package",
+    "private",
+    "protected",
+    "public",
+    "eval",
+    "arguments",
+];
+
+fn is_one_of(text: &str, words: &[&str]) -> bool
+    ensures { result ≡ list_any (λ word. pointwise nat_eq text.now word.now) words.now }
+{
+    words.iter().any(|word| text == *word)
+}
+
 fn is_reserved(name: &str) -> bool
     ensures { result ≡ list_any (pointwise nat_eq name.now) reserved }
 {
-    matches!(
-        name,
-        "break"
-            | "case"
-            | "catch"
-            | "class"
-            | "const"
-            | "continue"
-            | "debugger"
-            | "default"
-            | "delete"
-            | "do"
-            | "else"
-            | "enum"
-            | "export"
-            | "extends"
-            | "false"
-            | "finally"
-            | "for"
-            | "function"
-            | "if"
-            | "import"
-            | "in"
-            | "instanceof"
-            | "let"
-            | "new"
-            | "null"
-            | "return"
-            | "super"
-            | "switch"
-            | "this"
-            | "throw"
-            | "true"
-            | "try"
-            | "typeof"
-            | "undefined"
-            | "var"
-            | "void"
-            | "while"
-            | "with"
-            | "yield"
-            | "await"
-            | "static"
-            | "implements"
-            | "interface"
-            | "package"
-            | "private"
-            | "protected"
-            | "public"
-            | "eval"
-            | "arguments"
-    )
+    is_one_of(name, &RESERVED)
 }
 
 // Whether it is lower-case letters and no reserved word.
