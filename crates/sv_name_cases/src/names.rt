@@ -3,7 +3,7 @@ use crate::texts::{expression, script};
 use crate::words::listed;
 use std::alloc::Global;
 use std::test::Fail;
-use sv_ast::Ref;
+use sv_ast::{Ref, Script, Stmt};
 use sv_base::{Name, Names};
 use sv_names::{Distinct, assigned_names, free_names, read_names};
 
@@ -16,18 +16,17 @@ const EXPRESSIONS: [(&str, &str); 5] = [
     ("$x = x", "$x x "),
 ];
 
+fn free(alloc: Global, text: &str) -> Result<String, Fail> {
+    let mut names = Names::empty(alloc);
+    let e = expression(alloc, &mut names, text)?;
+    let found = free_names(alloc, &e)?;
+    Ok(listed(alloc, &names, found.as_slice())?)
+}
+
 #[test]
 fn each_name_stands_once_where_it_is_first_seen(rt: HostRuntime) -> Result<(), Fail> {
-    let alloc = rt.alloc();
-    for (text, free) in EXPRESSIONS {
-        let mut names = Names::empty(alloc);
-        let e = expression(alloc, &mut names, text)?;
-        let found = free_names(alloc, &e)?;
-        assert_eq!(rt;
-            listed(alloc, &names, found.as_slice())?.as_str(),
-            free,
-            "{text}"
-        );
+    for (text, wanted) in &EXPRESSIONS {
+        assert_eq!(rt; free(rt.alloc(), text)?.as_str(), *wanted, "{text}");
     }
     Ok(())
 }
@@ -55,27 +54,33 @@ const STATEMENTS: [(&str, &str, &str); 12] = [
     ("$: $s = s", "s ", "$s "),
 ];
 
+// The one statement of a script.
+fn statement(script: &Script) -> Result<&Stmt, Fail> {
+    match script.stmts.as_slice() {
+        [stmt] => Ok(stmt),
+        _ => Err("no statement".into()),
+    }
+}
+
+fn read(alloc: Global, text: &str) -> Result<String, Fail> {
+    let mut names = Names::empty(alloc);
+    let script = script(alloc, &mut names, text)?;
+    let found = read_names(alloc, statement(&script)?)?;
+    Ok(listed(alloc, &names, found.as_slice())?)
+}
+
+fn assigned(alloc: Global, text: &str) -> Result<String, Fail> {
+    let mut names = Names::empty(alloc);
+    let script = script(alloc, &mut names, text)?;
+    let found = assigned_names(alloc, statement(&script)?)?;
+    Ok(listed(alloc, &names, found.as_slice())?)
+}
+
 #[test]
 fn each_scope_hides_what_it_declares(rt: HostRuntime) -> Result<(), Fail> {
-    let alloc = rt.alloc();
-    for (text, reads, assigns) in STATEMENTS {
-        let mut names = Names::empty(alloc);
-        let script = script(alloc, &mut names, text)?;
-        let [stmt] = script.stmts.as_slice() else {
-            return Err("no statement".into());
-        };
-        let read = read_names(alloc, stmt)?;
-        let assigned = assigned_names(alloc, stmt)?;
-        assert_eq!(rt;
-            listed(alloc, &names, read.as_slice())?.as_str(),
-            reads,
-            "{text}"
-        );
-        assert_eq!(rt;
-            listed(alloc, &names, assigned.as_slice())?.as_str(),
-            assigns,
-            "{text}"
-        );
+    for (text, reads, assigns) in &STATEMENTS {
+        assert_eq!(rt; read(rt.alloc(), text)?.as_str(), *reads, "{text}");
+        assert_eq!(rt; assigned(rt.alloc(), text)?.as_str(), *assigns, "{text}");
     }
     Ok(())
 }

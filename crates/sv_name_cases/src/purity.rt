@@ -4,8 +4,8 @@ use crate::texts::expression;
 use std::alloc::Global;
 use std::process::Abort;
 use std::test::Fail;
-use sv_ast::{Ref, RefList};
-use sv_base::{Names, Span};
+use sv_ast::{Expr, Ref, RefList};
+use sv_base::{Names, NoMemory, Span};
 use sv_names::Distinct;
 use sv_purity::{Scope, first_impurity, is_pure};
 
@@ -13,15 +13,26 @@ use sv_purity::{Scope, first_impurity, is_pure};
 fn told(alloc: Global, text: &str, function: &str) -> Result<(bool, Option<Span>), Fail> {
     let mut names = Names::empty(alloc);
     let function = Ref::Plain(names.intern(function)?);
+    let e = expression(alloc, &mut names, text)?;
+    let pure = is_pure_by(alloc, &names, &e, function)?;
+    Ok((pure, first_by(alloc, &names, &e, function)?))
+}
+
+fn is_pure_by(alloc: Global, names: &Names, e: &Expr, function: Ref) -> Result<bool, NoMemory> {
     let mut pure = RefList::new(alloc);
     pure.push(function)?;
+    Ok(is_pure(names, e, &pure))
+}
+
+fn first_by(
+    alloc: Global,
+    names: &Names,
+    e: &Expr,
+    function: Ref,
+) -> Result<Option<Span>, NoMemory> {
     let mut known = Distinct::new(alloc);
     known.add(function)?;
-    let e = expression(alloc, &mut names, text)?;
-    Ok((
-        is_pure(&names, &e, &pure),
-        first_impurity(&names, &e, &Scope::Top(&known)),
-    ))
+    Ok(first_impurity(names, e, &Scope::Top(&known)))
 }
 
 fn holds(alloc: Global, text: &str, function: &str) -> Result<bool, Fail> {
@@ -194,31 +205,40 @@ const PLACES: [(&str, Option<(u32, u32)>); 12] = [
 
 #[test]
 fn the_first_impure_place_is_told(rt: HostRuntime) -> Result<(), Fail> {
-    for (text, place) in PLACES {
+    for (text, place) in &PLACES {
         let expected = place.map(|(from, to)| Span { file: 0, from, to });
         assert_eq!(rt; told(rt.alloc(), text, "f")?.1, expected, "{text}");
     }
     Ok(())
 }
 
-#[test]
-fn the_names_of_a_scope_hide_pure_functions(rt: HostRuntime) -> Result<(), Fail> {
-    let alloc = rt.alloc();
-    let mut names = Names::empty(alloc);
-    let mut own = Distinct::new(alloc);
-    own.add(Ref::Plain(names.intern("f")?))?;
-    let e = expression(alloc, &mut names, "l.map(f)")?;
-    let around = Scope::Top(&own);
+// The first place in a scope that declares the names of all pure functions anew.
+fn first_inside(names: &Names, e: &Expr, own: &Distinct) -> Option<Span> {
+    let around = Scope::Top(own);
     let inside = Scope::Hiding {
         outer: &around,
-        names: &own,
+        names: own,
     };
+    first_impurity(names, e, &inside)
+}
+
+// The first place of `l.map(f)` in a scope that declares `f` anew.
+fn first_hidden(alloc: Global) -> Result<Option<Span>, Fail> {
+    let mut names = Names::empty(alloc);
+    let e = expression(alloc, &mut names, "l.map(f)")?;
+    let mut own = Distinct::new(alloc);
+    own.add(Ref::Plain(names.intern("f")?))?;
+    Ok(first_inside(&names, &e, &own))
+}
+
+#[test]
+fn the_names_of_a_scope_hide_pure_functions(rt: HostRuntime) -> Result<(), Fail> {
     let whole = Span {
         file: 0,
         from: 0,
         to: 8,
     };
-    assert_eq!(rt; first_impurity(&names, &e, &around), None);
-    assert_eq!(rt; first_impurity(&names, &e, &inside), Some(whole));
+    assert_eq!(rt; told(rt.alloc(), "l.map(f)", "f")?.1, None);
+    assert_eq!(rt; first_hidden(rt.alloc())?, Some(whole));
     Ok(())
 }

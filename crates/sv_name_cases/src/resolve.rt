@@ -6,7 +6,9 @@ use std::test::Fail;
 use sv_ast::{Component, Nodes, Ref, RefList};
 use sv_base::{Names, NoMemory, Span};
 use sv_resolve::CheckKind::{AssignConst, CapturedAssign, DeclaredTwice, UnknownName};
-use sv_resolve::{CheckError, CheckKind, CheckRefusal, first_mistake, resolve, resolve_module};
+use sv_resolve::{
+    CheckError, CheckKind, CheckRefusal, Scopes, first_mistake, resolve, resolve_module,
+};
 use sv_scopes::{VIEW, scopes_of_component};
 
 fn at(from: u32, to: u32) -> Span {
@@ -192,19 +194,18 @@ const COMPONENTS: [(&str, Mistake); 14] = [
     ),
 ];
 
+fn refusal(alloc: Global, text: &str) -> Result<Option<CheckError>, Fail> {
+    let (names, tree) = component(alloc, text)?;
+    Ok(resolve(alloc, &names, &tree).err())
+}
+
 #[test]
 fn whole_components_are_resolved(rt: HostRuntime) -> Result<(), Fail> {
-    for (text, first) in COMPONENTS {
-        let (names, tree) = component(rt.alloc(), text)?;
-        let refused = resolve(rt.alloc(), &names, &tree).err();
-        let wanted = expected(first).map(CheckError::Refused);
-        assert_eq!(rt; refused, wanted, "{text}");
+    for (text, first) in &COMPONENTS {
+        let wanted = expected(*first).map(CheckError::Refused);
+        assert_eq!(rt; refusal(rt.alloc(), text)?, wanted, "{text}");
     }
-    let (names, tree) = component(rt.alloc(), ORDERED)?;
-    let scopes = resolve(rt.alloc(), &names, &tree)?;
-    let mut shown = String::new(rt.alloc());
-    push_names(&mut shown, &names, &scopes.cells)?;
-    assert_eq!(rt; shown.as_str(), "nba");
+    assert_eq!(rt; names_of(rt.alloc(), ORDERED)?.as_str(), "nba|");
     Ok(())
 }
 
@@ -260,10 +261,14 @@ fn push_names(shown: &mut String, names: &Names, list: &RefList) -> Result<(), A
 fn names_of(alloc: Global, text: &str) -> Result<String, Fail> {
     let (names, tree) = component(alloc, text)?;
     let scopes = resolve(alloc, &names, &tree)?;
+    shown(alloc, &names, &scopes)
+}
+
+fn shown(alloc: Global, names: &Names, scopes: &Scopes) -> Result<String, Fail> {
     let mut shown = String::new(alloc);
-    push_names(&mut shown, &names, &scopes.cells)?;
+    push_names(&mut shown, names, &scopes.cells)?;
     shown.push_str("|")?;
-    push_names(&mut shown, &names, &scopes.constants)?;
+    push_names(&mut shown, names, &scopes.constants)?;
     Ok(shown)
 }
 
@@ -291,8 +296,8 @@ const NAMES: [(&str, &str); 6] = [
 
 #[test]
 fn cells_are_variables_then_stores_then_the_view(rt: HostRuntime) -> Result<(), Fail> {
-    for (text, shown) in NAMES {
-        assert_eq!(rt; names_of(rt.alloc(), text)?.as_str(), shown, "{text}");
+    for (text, shown) in &NAMES {
+        assert_eq!(rt; names_of(rt.alloc(), text)?.as_str(), *shown, "{text}");
     }
     Ok(())
 }

@@ -5,6 +5,7 @@ use std::alloc::Global;
 use std::test::Fail;
 use sv_ast::{Markup, Ref};
 use sv_base::{Names, NoMemory};
+use sv_names::Distinct;
 use sv_scopes::{
     Binding, FileScopes, Form, Role, Scope, Use, VIEW, let_names, row_names, scopes_of_component,
     scopes_of_module,
@@ -64,14 +65,17 @@ const SCRIPTS: [(&str, &str); 8] = [
     ("$: a = b\n$: b = a\n$: a = c\nexport let b", "ab:a=bb=aa=c"),
 ];
 
+fn of_module(alloc: Global, text: &str) -> Result<String, Fail> {
+    let mut names = Names::empty(alloc);
+    let script = script(alloc, &mut names, text)?;
+    let scopes = scopes_of_module(alloc, &script)?;
+    Ok(shown(alloc, &names, &scopes)?)
+}
+
 #[test]
 fn arrows_blocks_functions_and_loops_are_scopes(rt: HostRuntime) -> Result<(), Fail> {
-    let alloc = rt.alloc();
-    for (text, wanted) in SCRIPTS {
-        let mut names = Names::empty(alloc);
-        let script = script(alloc, &mut names, text)?;
-        let scopes = scopes_of_module(alloc, &script)?;
-        assert_eq!(rt; shown(alloc, &names, &scopes)?.as_str(), wanted, "{text}");
+    for (text, wanted) in &SCRIPTS {
+        assert_eq!(rt; of_module(rt.alloc(), text)?.as_str(), *wanted, "{text}");
     }
     Ok(())
 }
@@ -116,13 +120,16 @@ const COMPONENTS: [(&str, &str); 7] = [
     ("<slot>{a}</slot>", ":$a"),
 ];
 
+fn of_component(alloc: Global, text: &str) -> Result<String, Fail> {
+    let (names, tree) = component(alloc, text)?;
+    let scopes = scopes_of_component(alloc, &tree)?;
+    Ok(shown(alloc, &names, &scopes)?)
+}
+
 #[test]
 fn rows_and_content_are_scopes(rt: HostRuntime) -> Result<(), Fail> {
-    let alloc = rt.alloc();
-    for (text, wanted) in COMPONENTS {
-        let (names, tree) = component(alloc, text)?;
-        let scopes = scopes_of_component(alloc, &tree)?;
-        assert_eq!(rt; shown(alloc, &names, &scopes)?.as_str(), wanted, "{text}");
+    for (text, wanted) in &COMPONENTS {
+        assert_eq!(rt; of_component(rt.alloc(), text)?.as_str(), *wanted, "{text}");
     }
     Ok(())
 }
@@ -137,20 +144,25 @@ const PLACES: [(&str, &[u32]); 3] = [
     ("{a}<p>{b}</p>", &[1, 7]),
 ];
 
+// Whether names are used at these places.
+fn are_at(uses: &[Use], wanted: &[u32]) -> bool {
+    let are_there = uses
+        .iter()
+        .zip(wanted)
+        .all(|(found, from)| found.span.from == *from);
+    uses.len() == wanted.len() && are_there
+}
+
+fn are_used_at(alloc: Global, text: &str, wanted: &[u32]) -> Result<bool, Fail> {
+    let (_, tree) = component(alloc, text)?;
+    let scopes = scopes_of_component(alloc, &tree)?;
+    Ok(are_at(scopes.top.uses.as_slice(), wanted))
+}
+
 #[test]
 fn names_are_used_where_they_stand(rt: HostRuntime) -> Result<(), Fail> {
-    let alloc = rt.alloc();
-    for (text, wanted) in PLACES {
-        let (_, tree) = component(alloc, text)?;
-        let scopes = scopes_of_component(alloc, &tree)?;
-        let uses = scopes.top.uses.as_slice();
-        assert_eq!(rt; uses.len(), wanted.len(), "{text}");
-        assert!(rt;
-            uses.iter()
-                .zip(wanted)
-                .all(|(found, from)| found.span.from == *from),
-            "{text}"
-        );
+    for (text, wanted) in &PLACES {
+        assert!(rt; are_used_at(rt.alloc(), text, wanted)?, "{text}");
     }
     Ok(())
 }
@@ -166,30 +178,43 @@ fn a_slot_uses_the_view(rt: HostRuntime) -> Result<(), Fail> {
     Ok(())
 }
 
+// The names of a tag, or of a row.
+fn told_by(alloc: Global, node: &Markup) -> Result<Distinct, Fail> {
+    match node {
+        Markup::Comp { attrs, .. } => Ok(let_names(alloc, attrs.as_slice())?),
+        Markup::Each { item, index, .. } => Ok(row_names(alloc, item, index)?),
+        _ => Err("no tag and no row".into()),
+    }
+}
+
+fn has(told: &Distinct, names: &Names, text: &str) -> bool {
+    match names.find(text) {
+        Some(name) => told.has(Ref::Plain(name)),
+        None => false,
+    }
+}
+
+// Whether a node tells the names `a` and `b` alone.
+fn tells_two(alloc: Global, names: &Names, node: &Markup) -> Result<bool, Fail> {
+    let told = told_by(alloc, node)?;
+    Ok(told.len() == 2 && has(&told, names, "a") && has(&told, names, "b"))
+}
+
+// Whether each node at the top tells the names `a` and `b` alone.
+fn all_tell_two(alloc: Global, text: &str) -> Result<bool, Fail> {
+    let (names, tree) = component(alloc, text)?;
+    for node in tree.nodes.as_slice() {
+        if !tells_two(alloc, &names, node)? {
+            return Ok(false);
+        }
+    }
+    Ok(true)
+}
+
 #[test]
 fn tags_and_rows_tell_their_names(rt: HostRuntime) -> Result<(), Fail> {
-    let alloc = rt.alloc();
-    let text = "<C let:a let:c={b} d={x}/>{#each l as a, b}{/each}";
-    let (names, tree) = component(alloc, text)?;
-    let [Markup::Comp { attrs, .. }, Markup::Each { item, index, .. }] = tree.nodes.as_slice()
-    else {
-        return Err("no tag and row".into());
-    };
-    let lets = let_names(alloc, attrs.as_slice())?;
-    let row = row_names(alloc, item, index)?;
-    for (text, known) in [
-        ("a", true),
-        ("b", true),
-        ("c", false),
-        ("x", false),
-        ("l", false),
-    ] {
-        let Some(name) = names.find(text) else {
-            return Err("no name".into());
-        };
-        assert_eq!(rt; lets.has(Ref::Plain(name)), known, "{text}");
-        assert_eq!(rt; row.has(Ref::Plain(name)), known, "{text}");
-    }
-    assert_eq!(rt; (lets.len(), row.len()), (2, 2));
+    assert!(rt; all_tell_two(rt.alloc(), "<C let:a let:c={b} d={x}/>")?);
+    assert!(rt; all_tell_two(rt.alloc(), "{#each l as a, b}{/each}")?);
+    assert!(rt; !all_tell_two(rt.alloc(), "{#each l as a}{/each}")?);
     Ok(())
 }
