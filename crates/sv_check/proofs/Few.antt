@@ -1,5 +1,5 @@
 -- A file whose 249th cell has no place has at most 248 cells.
-use Rattle.std.proofs.Common.{◌≡◌, ℕ, zero, suc, ◌+◌, ◌<◌, ◌≤◌, Bool, true, false, List, [], ◌∷◌, ◌++◌, Option, None, Some, length, map, filter, refl, sym, ap, ◌∙◌, subst, arith, length-append}
+use Rattle.std.proofs.Common.{◌≡◌, ℕ, zero, suc, ◌+◌, ◌≤◌, Bool, true, false, List, [], ◌∷◌, ◌++◌, length, map, filter, refl, ap, ◌∙◌, arith, length-append}
 use Rattle.std.specs.Prelude.{slice_get, if◌then◌else◌}
 use Rattle.std.specs.Option.{option_to_list}
 use Rattle.std.proofs.lemmas.List.{length_push, length-map}
@@ -11,12 +11,10 @@ use Rattle.sv_names.specs.Distinct.{same_ref, has, with_name, with_names}
 use Rattle.sv_resolve.specs.declared.cells.Scopes.{Scopes}
 use Rattle.sv_resolve.specs.Cells.{is_variable, is_store, variables, stores, uses_view, scopes}
 use Rattle.sv_resolve.specs.Places.{declaration_place}
-use Rattle.sv_scopes.specs.declared.words.Declared.{Declared}
 use Rattle.sv_scopes.specs.declared.words.Scope.{Scope}
 use Rattle.sv_scopes.specs.declared.words.TheConstants.{VIEW}
 use Rattle.sv_scopes.specs.declared.words.Use.{Use}
 use Rattle.sv_scopes.specs.Files.{component_scopes}
-use Rattle.sv_scopes.specs.Parts.{names_of}
 use Rattle.sv_check.specs.Cells.{store_places, first_view, cell_places, too_many}
 use Rattle.sv_check.specs.Checked.{told_scopes}
 use Rattle.sv_check.specs.Files.{Table, scopes_of}

@@ -1,7 +1,7 @@
 -- Compiled programs, by what holds of their own parts.
 use Rattle.std.specs.Prelude.{◌≡◌, ℕ, ◌<◌, ◌≤◌, Bool, true, false, List, Some, All, length, slice_get}
 use Rattle.sv_code.specs.declared.functions.CodeStmt.{CodeStmt}
-use Rattle.sv_code.specs.declared.functions.CodeStmtKind.{CodeStmtKind, CodeStmtKind-F, out-CodeStmtKind}
+use Rattle.sv_code.specs.declared.functions.CodeStmtKind.{CodeStmtKind-F, out-CodeStmtKind}
 use Rattle.sv_code.specs.declared.functions.Function.{Function}
 use Rattle.sv_code.specs.declared.program.Component.{Component}
 use Rattle.sv_code.specs.declared.program.FileCode.{FileCode}

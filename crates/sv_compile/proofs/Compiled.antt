@@ -1,5 +1,5 @@
 -- What a checked program is compiled to is a compiled program.
-use Rattle.std.proofs.Common.{◌≡◌, ℕ, zero, suc, ◌<◌, ◌≤◌, Bool, true, List, [], ◌∷◌, ◌++◌, Some, length, refl, sym, ap, subst, ◌∙◌, arith}
+use Rattle.std.proofs.Common.{◌≡◌, ℕ, zero, suc, ◌≤◌, true, List, [], ◌∷◌, Some, length, refl, sym, ap, subst, arith}
 use Rattle.std.specs.List.{All}
 use Rattle.std.specs.Prelude.{slice_get}
 use Rattle.std.proofs.lemmas.List.Elements.{All-nil, All-cons, All-head, All-tail}
@@ -10,17 +10,13 @@ use Rattle.sv_ast.specs.declared.files.FileTree.TheVariants as tree
 use Rattle.sv_ast.specs.declared.files.SourceFile.{SourceFile}
 use Rattle.sv_check.specs.declared.checked.CheckedComponent.{CheckedComponent}
 use Rattle.sv_check.specs.Checked.{IsChecked, AreChecked}
-use Rattle.sv_code.specs.declared.functions.CodeStmt.{CodeStmt}
 use Rattle.sv_code.specs.declared.functions.Function.{Function}
-use Rattle.sv_code.specs.declared.program.Component.{Component as CodeComponent}
 use Rattle.sv_code.specs.declared.program.FileCode.{FileCode}
 use Rattle.sv_code.specs.declared.program.FileCode.TheVariants as file_code
 use Rattle.sv_code.specs.declared.program.ProgramFile.{ProgramFile}
-use Rattle.sv_code.specs.Compiled.{IsComponent, IsCode, IsFile, AreClosed, IsCompiled}
+use Rattle.sv_code.specs.Compiled.{IsCode, IsFile, AreClosed, IsCompiled}
 use Rattle.sv_code.specs.Numbers.{IsThere, functions_alone, of_stmts as stmt_numbers, of_frags, of_function}
-use Rattle.sv_code.proofs.Compiled.{all_mono}
 use Rattle.sv_frags.specs.Frags.{fragments}
-use Rattle.sv_frags.specs.Makes.{Around}
 use Rattle.sv_frags.proofs.Looking.{numbers_within}
 use Rattle.sv_frags.proofs.Naming.{fragments_keep}
 use Rattle.sv_lines.specs.Lines.{ascends, LinesAscend}
@@ -28,7 +24,7 @@ use Rattle.sv_lower.specs.Lower.{of_stmts}
 use Rattle.sv_lower.proofs.Keeping.{still}
 use Rattle.sv_lower.proofs.Lowering.{of_stmts_keeps}
 use Rattle.sv_slots.specs.Sheets.{all_props}
-use Rattle.sv_compile.specs.Compile.{around, component_of, component, tree_code, file, files_code, program_of, program}
+use Rattle.sv_compile.specs.Compile.{around, component, tree_code, file, files_code, program}
 use Rattle.sv_compile.proofs.Files.{tags_are_files}
 use Rattle.sv_compile.proofs.Reacting.{runs_are}
 

@@ -1,6 +1,6 @@
 -- The reactive statements of a compiled script.
-use Rattle.std.proofs.Common.{◌≡◌, ℕ, zero, suc, ◌+◌, ◌<◌, Bool, true, false, cond, List, [], ◌∷◌, ◌++◌, Option, None, Some, length, filter, option_map, refl, sym, ap, subst, ◌∙◌, arith}
-use Rattle.std.specs.List.{All, flat_map}
+use Rattle.std.proofs.Common.{◌≡◌, ℕ, zero, suc, ◌+◌, Bool, true, false, List, [], ◌∷◌, Option, None, Some, length, option_map, refl, sym, ap, subst, arith}
+use Rattle.std.specs.List.{All}
 use Rattle.std.specs.Option.{option_to_list}
 use Rattle.std.specs.Prelude.{slice_get, if◌then◌else◌}
 use Rattle.std.proofs.lemmas.List.Elements.{All-nil, All-cons, All-append, All-head, All-tail}
@@ -14,7 +14,7 @@ use Rattle.sv_ast.specs.declared.script_tree.Arm.{Arm}
 use Rattle.sv_ast.specs.declared.script_tree.Decl.{Decl}
 use Rattle.sv_ast.specs.declared.script_tree.Expr.{Expr}
 use Rattle.sv_ast.specs.declared.script_tree.Link.{Link}
-use Rattle.sv_ast.specs.declared.script_tree.Stmt.{Stmt, out-Stmt, fold_out-Stmt}
+use Rattle.sv_ast.specs.declared.script_tree.Stmt.{Stmt, fold_out-Stmt}
 use Rattle.sv_ast.specs.declared.script_tree.StmtKind.{StmtKind, StmtKind-F, out-StmtKind, map-StmtKind, fold_out-StmtKind}
 use Rattle.sv_code.specs.Compiled.{is_react, is_reactive as is_reactive_code, IsRun}
 use Rattle.sv_code.specs.declared.code.Code.{Code}
@@ -30,14 +30,13 @@ use Rattle.sv_code.specs.declared.functions.CodeStmtKind
 use Rattle.sv_code.specs.declared.functions.CodeStmtKind.{CodeStmtKind as AnyKind, out-CodeStmtKind}
 use Rattle.sv_code.specs.declared.functions.Function.{Function}
 use Rattle.sv_code.specs.declared.functions.FunctionBody.{FunctionBody}
-use Rattle.sv_code.specs.declared.program.Run.{Run}
 use Rattle.sv_check.specs.Waiting.{is_reactive, is_reactive_layer}
 use Rattle.sv_frags.proofs.Looking.{numbers_within}
 use Rattle.sv_lower.specs.Does.{Does}
 use Rattle.sv_lower.specs.Lower.{body, entry, expr_kind, field, stmt_kind, arm, decl, expr, link, stmt, of_body, of_entry, of_kind, of_field, of_stmt_kind, of_arm, of_decl, of_expr, of_link, of_stmt, of_stmts}
 use Rattle.sv_names.specs.Uses.{read_names, assigned_names}
 use Rattle.sv_imports.specs.Imports.{StmtLayer}
-use Rattle.sv_compile.specs.Runs.{placed, reactives_from, reactives, run, run_at, runs}
+use Rattle.sv_compile.specs.Runs.{reactives_from, reactives, run, run_at, runs}
 
 -- ---- statements stay in their places
 

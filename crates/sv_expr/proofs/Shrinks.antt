@@ -3,12 +3,10 @@ use Rattle.std.proofs.Common.{◌≡◌, ◌≢◌, ◌≤◌, ◌<◌, ℕ, suc
 use Rattle.std.specs.Prelude.{Some}
 use Rattle.sv_ast.specs.declared.names.Named.{Named}
 use Rattle.sv_ast.specs.declared.names.Ref.{Ref}
-use Rattle.sv_ast.specs.declared.script_tree.Body.{Body}
 use Rattle.sv_ast.specs.declared.script_tree.Entry.{Entry}
 use Rattle.sv_ast.specs.declared.script_tree.Expr.{Expr}
 use Rattle.sv_ast.specs.declared.script_tree.ExprKind.{ExprKind}
 use Rattle.sv_ast.specs.declared.script_tree.Field.{Field}
-use Rattle.sv_ast.specs.declared.script_tree.Link.{Link}
 use Rattle.sv_ast.specs.declared.script_tree.Stmt.{Stmt}
 use Rattle.sv_lex.specs.declared.lexeme.Lexeme.{Lexeme}
 use Rattle.sv_lex.specs.declared.lexeme.Lexeme.TheVariants as k
@@ -16,13 +14,12 @@ use Rattle.sv_lex.specs.Look.{past}
 use Rattle.sv_lex.specs.Reader.{Input, Parser, sees, next, left}
 use Rattle.sv_lex.proofs.Progress.{next-le, next-less, run-less}
 use Rattle.sv_expr.specs.declared.form.Form.{Form}
-use Rattle.sv_expr.specs.declared.quotients.Left.{Left}
 use Rattle.sv_expr.specs.Grammar as g
 use Rattle.sv_expr.specs.Laws.{Shrinks}
 use Rattle.sv_expr.specs.Limits.{Limits}
 use Rattle.sv_expr.specs.Operators.{bump, literal}
 use Rattle.sv_expr.proofs.Ways.{IsWay, inside_moves, item_moves, field_moves}
-use Rattle.sv_expr.proofs.Words.{is_word, text_next, left_as, word_past, name_past, string_past, numeral_past, word_text_sees, target_past}
+use Rattle.sv_expr.proofs.Words.{is_word, text_next, left_as, word_text_sees}
 
 -- ---- how expressions begin
 

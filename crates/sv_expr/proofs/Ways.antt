@@ -1,6 +1,6 @@
 -- What holds between a text and what a rule of the grammar leaves of it, where each token keeps it.
 use Rattle.std.proofs.Common.{◌≡◌, ◌≢◌, ◌≤◌, ◌<◌, ℕ, suc, Bool, true, false, List, refl, ap, sym, ◌∙◌, subst, arith}
-use Rattle.std.specs.Prelude.{◌==◌, nat_le, length, Option, Some, None, Ok, ℤ}
+use Rattle.std.specs.Prelude.{◌==◌, nat_le, length, Some, None, Ok, ℤ}
 use Rattle.sv_ast.specs.declared.names.Named.{Named}
 use Rattle.sv_ast.specs.declared.names.Ref.{Ref}
 use Rattle.sv_ast.specs.declared.script_tree.Body.{Body}
@@ -22,7 +22,7 @@ use Rattle.sv_expr.specs.declared.quotients.Left.{Left}
 use Rattle.sv_expr.specs.Grammar as g
 use Rattle.sv_expr.specs.Limits.{Limits}
 use Rattle.sv_expr.specs.Operators.{bump, literal}
-use Rattle.sv_expr.proofs.Words.{is_word, text_next, word_past, name_past, name_sees, store_past, string_past, numeral_past, word_text_sees, target_past}
+use Rattle.sv_expr.proofs.Words.{is_word, word_past, name_past, name_sees, store_past, string_past, numeral_past, word_text_sees}
 
 -- a relation that stands still and goes on with each token, and a stricter one that takes a token
 pub record IsWay (Way Move : Input → Input → Type 0) : Type 0 where

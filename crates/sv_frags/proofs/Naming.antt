@@ -1,9 +1,9 @@
 -- What is made of markup names what is there: an induction over markup, a lemma a form.
-use Rattle.std.proofs.Common.{◌≡◌, ℕ, ◌<◌, Bool, true, false, List, [], ◌∷◌, ◌++◌, Option, None, Some, length, map, option_map, append_assoc, refl, sym, ap, ◌∙◌, subst, arith}
+use Rattle.std.proofs.Common.{◌≡◌, ℕ, ◌<◌, Bool, true, false, List, [], ◌∷◌, ◌++◌, Option, None, Some, length, map, option_map, refl, sym, ◌∙◌, subst}
 use Rattle.std.specs.List.{All}
 use Rattle.std.specs.Prelude.{⊤, if◌then◌else◌}
 use Rattle.std.specs.Option.{option_to_list}
-use Rattle.std.proofs.lemmas.List.Elements.{All-nil, All-cons, All-append, All-head, All-tail, All-map}
+use Rattle.std.proofs.lemmas.List.Elements.{All-nil, All-cons, All-append, All-head, All-tail}
 use Rattle.sv_ast.specs.declared.markup_tree.AttrKind.{AttrKind}
 use Rattle.sv_ast.specs.declared.markup_tree.AttrKind.TheVariants as kind
 use Rattle.sv_ast.specs.declared.markup_tree.AttrPart.{AttrPart}
@@ -19,29 +19,25 @@ use Rattle.sv_ast.specs.declared.names.Ref.TheVariants.{Plain}
 use Rattle.sv_ast.specs.declared.script_tree.Expr.{Expr}
 use Rattle.sv_base.specs.declared.names.Name.{Name}
 use Rattle.sv_base.specs.declared.span.Span.{Span}
-use Rattle.sv_code.specs.declared.code.Code
-use Rattle.sv_code.specs.declared.code.Code.{Code as AnyCode, fold-roll-Code}
+use Rattle.sv_code.specs.declared.code.Code.{fold-roll-Code}
 use Rattle.sv_code.specs.declared.code.CodeKind
 use Rattle.sv_code.specs.declared.code.CodeKind.{CodeKind-F, fold-roll-CodeKind}
 use Rattle.sv_code.specs.declared.code.CodeKind.TheVariants as code
 use Rattle.sv_code.specs.declared.fragments.Frag
 use Rattle.sv_code.specs.declared.fragments.Frag.{Frag as AnyFrag, Frag-F, fold-roll-Frag}
 use Rattle.sv_code.specs.declared.fragments.Frag.TheVariants as frag
-use Rattle.sv_code.specs.declared.fragments.FragArm.{FragArm, FragArm-F, fold-roll-FragArm}
+use Rattle.sv_code.specs.declared.fragments.FragArm.{FragArm, fold-roll-FragArm}
 use Rattle.sv_code.specs.declared.fragments.FragAttr.{FragAttr}
 use Rattle.sv_code.specs.declared.fragments.FragAttr.TheVariants as frag_attr
-use Rattle.sv_code.specs.declared.fragments.FragValue.{FragValue}
 use Rattle.sv_code.specs.declared.fragments.FragValue.TheVariants as frag_value
-use Rattle.sv_code.specs.declared.fragments.FragValuePart.{FragValuePart}
 use Rattle.sv_code.specs.declared.fragments.FragValuePart.TheVariants as value_part
 use Rattle.sv_code.specs.declared.fragments.LetName.{LetName}
 use Rattle.sv_code.specs.declared.parts.Part.{Part}
 use Rattle.sv_code.specs.declared.parts.Reading.{Reading}
 use Rattle.sv_code.specs.Numbers as numbers
 use Rattle.sv_code.specs.Numbers.{Number, OfFile, IsThere, counts, joined, given, of_code, of_reading, of_part, of_value_part, of_value, of_attr, of_attrs, of_frag, of_branch, of_frags}
-use Rattle.sv_lower.specs.Does.{Does, just, of_one, of_two, of_three}
 use Rattle.sv_lower.specs.Lower.{of_expr}
-use Rattle.sv_lower.proofs.Keeping.{Keeps, Always, just_there, just_keeps, one_by, one_keeps, two_by, two_keeps, three_keeps, wider}
+use Rattle.sv_lower.proofs.Keeping.{Keeps, just_there, just_keeps, one_by, one_keeps, two_by, two_keeps, three_keeps, wider}
 use Rattle.sv_lower.proofs.Lowering.{of_expr_keeps}
 use Rattle.sv_reads.specs.Looks.{looked_at}
 use Rattle.sv_reads.specs.Reading.{reading}
@@ -49,14 +45,12 @@ use Rattle.sv_scopes.specs.Attributes.{is_slotted}
 use Rattle.sv_scopes.specs.declared.words.TheConstants.{VIEW}
 use Rattle.sv_slots.specs.Children.{Points, file_of}
 use Rattle.sv_names.specs.Distinct.{same_ref}
-use Rattle.sv_white.specs.declared.pieces.Piece.{Piece}
 use Rattle.sv_white.specs.declared.pieces.Piece.TheVariants.{Words, Apart, Other}
 use Rattle.sv_white.specs.White.{kept}
 use Rattle.sv_frags.specs.declared.markup.Row.{Row}
 use Rattle.sv_frags.specs.Makes.{Around, Makes, all, optional, within, part_of, part, named, list_names}
-use Rattle.sv_frags.specs.Attributes.{shown, value, expr_of, directive, attr_of, attr, attrs, lets}
-use Rattle.sv_frags.specs.Frags as spec
-use Rattle.sv_frags.specs.Frags.{Node, piece, content, nodes, let_refs, named_by, tag, element, own_lets, own_refs, component_with, component, slot, if_block, row_refs, row, with_none, each_block, key_block, markup, branch, node, arm, fragments}
+use Rattle.sv_frags.specs.Attributes.{shown, value, expr_of, directive, attr_of, attr, attrs}
+use Rattle.sv_frags.specs.Frags.{Node, piece, content, nodes, let_refs, named_by, tag, element, own_lets, own_refs, component_with, slot, if_block, row_refs, row, with_none, each_block, key_block, markup, branch, node, arm, fragments}
 use Rattle.sv_frags.proofs.Kept.{kept_all}
 use Rattle.sv_frags.proofs.Looking.{reading_there, looked_there}
 

@@ -1,11 +1,10 @@
 -- A reader that gives an answer, or refuses with a property of the refusal: for laws that what is in the grammar is read.
-use Rattle.std.proofs.Common.{◌≡◌, ◌≢◌, ◌⊎◌, inl, inr, ℕ, Bool, true, false, cond, refl, ap, sym, ◌∙◌}
+use Rattle.std.proofs.Common.{◌≡◌, ◌⊎◌, inl, inr, refl, ap, ◌∙◌}
 use Rattle.std.specs.Prelude.{Ok, Err}
-use Rattle.sv_ast.specs.declared.names.Named.{Named}
 use Rattle.sv_ast.specs.declared.refusals.Refused.{Refused}
 use Rattle.sv_lex.specs.declared.lexeme.Lexeme.{Lexeme}
 use Rattle.sv_lex.specs.declared.lexeme.Lexeme.TheVariants.{Name}
-use Rattle.sv_lex.specs.Reader.{Input, Outcome, Parser, and_then, expect, sees, sees_one, after, next, name, word}
+use Rattle.sv_lex.specs.Reader.{Input, Outcome, Parser, and_then, expect, sees, next, name, word}
 use Rattle.sv_lex.proofs.Sees.{sees_yes}
 
 -- refuses with this property

@@ -1,12 +1,10 @@
 -- What is read is the longest that stands there.
-use Rattle.std.proofs.Common.{◌≡◌, ◌≢◌, ℕ, zero, suc, ◌-◌, Bool, true, false, cond, List, [], ◌∷◌, refl, ap, sym, ◌∙◌, arith, inl, inr}
+use Rattle.std.proofs.Common.{◌≡◌, ℕ, zero, suc, ◌-◌, Bool, true, false, cond, List, [], ◌∷◌, refl, ap, ◌∙◌, arith, inl, inr}
 use Rattle.std.specs.Prelude.{◌==◌, slice_index, Option, Some, None}
 use Rattle.std.proofs.lemmas.Bool.Decides.{eqb_tells}
-use Rattle.sv_lex.specs.declared.characters.Class.TheVariants as class
 use Rattle.sv_lex.specs.declared.lexeme.Lexeme.{Lexeme}
 use Rattle.sv_lex.specs.declared.pieces.Piece.{Piece}
 use Rattle.sv_lex.specs.declared.pieces.Piece.TheVariants.{Blank, NameRest, Written}
-use Rattle.sv_lex.specs.declared.strings.Quote.{Quote}
 use Rattle.sv_lex.specs.declared.strings.Quote.TheVariants.{Single, Double, Back}
 use Rattle.sv_lex.specs.Characters.{char_len}
 use Rattle.sv_lex.specs.Comments.{blank_len}

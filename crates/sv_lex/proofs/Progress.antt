@@ -1,8 +1,6 @@
 -- Each token takes a byte.
-use Rattle.std.proofs.Common.{◌≡◌, ◌≢◌, ◌≤◌, ◌<◌, ℕ, zero, suc, ◌+◌, ◌-◌, Bool, true, false, ◌&&◌, cond, List, [], ◌∷◌, length, drop, take, refl, ap, sym, ◌∙◌, arith, length-drop}
+use Rattle.std.proofs.Common.{◌≡◌, ◌≢◌, ◌≤◌, ℕ, zero, suc, ◌+◌, ◌-◌, Bool, true, false, ◌&&◌, cond, List, [], ◌∷◌, length, drop, take, refl, ap, arith, length-drop}
 use Rattle.std.specs.Prelude.{slice_index, ◌==◌, nat_le, nat_lt, Option, Some, None, Ok, Err}
-use Rattle.std.specs.List.{prefix_len}
-use Rattle.std.proofs.lemmas.Grind.{common_steps}
 use Rattle.std.proofs.lemmas.Bool.Decides.{nat_tests}
 use Rattle.sv_lex.specs.declared.characters.Class.TheVariants as class
 use Rattle.sv_lex.specs.declared.digits.Base.TheVariants.{Ten}
@@ -19,10 +17,9 @@ use Rattle.sv_lex.specs.Digits.{value_of, digits_len}
 use Rattle.sv_lex.specs.Literals.{run, run_of, ends_at, end_len, moved}
 use Rattle.sv_lex.specs.Pieces.{rest, run_len}
 use Rattle.sv_lex.specs.Look.{skip, first, first_len, past}
-use Rattle.sv_lex.specs.Reader.{Input, Outcome, sees, next, left, start, len}
+use Rattle.sv_lex.specs.Reader.{Input, Outcome, sees, next, left}
 use Rattle.sv_lex.specs.Signs.{of_two, of_three, sign, two_or_one, three_or_less}
-use Rattle.sv_lex.specs.Strings.{closing}
-use Rattle.sv_lex.specs.Token.{Token, token, name_or_other, other, numeral, alone, store, store_of, quoted, closed, name_len}
+use Rattle.sv_lex.specs.Token.{Token, token, name_or_other, other, numeral, alone, store, store_of, quoted, name_len}
 use Rattle.sv_lex.specs.Words.{keyword}
 use Rattle.sv_lex.proofs.Runs.{rest-le, unequal}
 

@@ -1,9 +1,9 @@
 -- One piece more, or none.
-use Rattle.std.proofs.Common.{◌≡◌, ◌≢◌, ◌≤◌, ◌<◌, ◌+◌, ◌-◌, ℕ, zero, suc, Bool, true, false, cond, List, [], ◌∷◌, length, drop, refl, ap, sym, ◌∙◌, arith, eq-eqb, inl, inr, length-drop}
+use Rattle.std.proofs.Common.{◌≡◌, ◌≢◌, ◌≤◌, ◌-◌, ℕ, zero, suc, Bool, true, false, cond, List, [], ◌∷◌, length, drop, refl, ap, sym, ◌∙◌, arith, eq-eqb, inl, inr}
 use Rattle.std.specs.Prelude.{◌==◌}
 use Rattle.std.proofs.lemmas.Bool.Decides.{eqb_tells}
 use Rattle.sv_lex.specs.declared.pieces.Piece.{Piece}
-use Rattle.sv_lex.specs.Pieces.{piece_len, rest_by, rest, run_len}
+use Rattle.sv_lex.specs.Pieces.{piece_len, rest_by, rest}
 
 rest_by-drop : (piece : Piece) (n : ℕ) (z : List ℕ) → rest_by piece n z ≡ rest_by piece 0 (drop n z)
 unfolding rest_by

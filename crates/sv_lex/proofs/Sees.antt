@@ -1,5 +1,5 @@
 -- Tests on kinds of tokens.
-use Rattle.std.proofs.Common.{◌≡◌, ◌≢◌, Bool, true, false, cond, refl, ap, rules}
+use Rattle.std.proofs.Common.{◌≡◌, ◌≢◌, true, false, cond, ap, rules}
 use denote.Enum.Bare.{same_true, same_false, true_same, false_same}
 use Rattle.sv_lex.specs.contracts.lexeme.Lexeme.{the_type}
 use Rattle.sv_lex.specs.declared.lexeme.Lexeme.{Lexeme}

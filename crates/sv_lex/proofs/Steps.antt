@@ -1,8 +1,7 @@
 -- What holds of each answer that a chain of steps gives: for laws that what is read is in the grammar.
-use Rattle.std.proofs.Common.{◌≡◌, ◌≢◌, ℕ, Bool, true, false, cond, refl, ap, sym, ◌∙◌}
+use Rattle.std.proofs.Common.{◌≡◌, ◌≢◌, Bool, true, false, cond, refl}
 use Rattle.std.specs.Prelude.{Ok, Err}
 use Rattle.sv_ast.specs.declared.names.Named.{Named}
-use Rattle.sv_ast.specs.declared.refusals.Kind.TheVariants.{Syntax}
 use Rattle.sv_lex.specs.declared.lexeme.Lexeme.{Lexeme}
 use Rattle.sv_lex.specs.declared.lexeme.Lexeme.TheVariants.{Name}
 use Rattle.sv_lex.specs.Reader.{Input, Outcome, Parser, and_then, expect, sees, sees_one, after, next, name, word}

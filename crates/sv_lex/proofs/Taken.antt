@@ -1,5 +1,5 @@
 -- A name that is numbered and then taken.
-use Rattle.std.proofs.Common.{◌≡◌, ℕ, Bool, true, false, cond, List, length, refl, ap, sym, ◌∙◌, subst}
+use Rattle.std.proofs.Common.{◌≡◌, ℕ, false, cond, List, length, refl, ap, sym, ◌∙◌}
 use Rattle.std.specs.Prelude.{Ok, ◌==◌}
 use Rattle.sv_base.specs.declared.names.Name.{Name}
 use Rattle.sv_base.specs.declared.span.Span.{Span}

@@ -1,6 +1,6 @@
 -- A name is text.
-use Rattle.std.proofs.Common.{◌≡◌, ◌≢◌, ◌≤◌, ◌<◌, ℕ, zero, suc, ◌+◌, ◌-◌, Bool, true, false, cond, List, [], ◌∷◌, ◌++◌, length, take, drop, refl, ap, sym, ◌∙◌, subst, arith, length-drop}
-use Rattle.std.specs.Prelude.{Option, Some, None, ◌==◌}
+use Rattle.std.proofs.Common.{◌≡◌, ◌≢◌, ◌≤◌, ℕ, zero, suc, ◌+◌, Bool, true, false, cond, List, [], ◌∷◌, length, take, drop, refl, ap, sym, ◌∙◌, subst, arith, length-drop}
+use Rattle.std.specs.Prelude.{Option, Some, None}
 use Rattle.std.specs.Char.{encode_utf8}
 use Rattle.std.specs.Str.{IsUtf8}
 use Rattle.std.proofs.Math.Seq.{take-append_seam, take-add}
@@ -11,7 +11,7 @@ use Rattle.sv_lex.specs.declared.characters.Class.{Class}
 use Rattle.sv_lex.specs.declared.characters.Class.TheVariants.{NameStart, NameRest}
 use Rattle.sv_lex.specs.declared.pieces.Piece.TheVariants as piece
 use Rattle.sv_lex.specs.Characters.{is_in, len_in, char_len}
-use Rattle.sv_lex.specs.Pieces.{piece_len, rest, run_len}
+use Rattle.sv_lex.specs.Pieces.{rest, run_len}
 use Rattle.sv_lex.specs.Token.{name_len, with_rest}
 use Rattle.sv_lex.proofs.Runs.{rest-none, rest-some, rest-le, unequal}
 use Rattle.sv_lex.proofs.Chars.{char_bounds}

@@ -1,6 +1,6 @@
 -- One written character more, or none.
-use Rattle.std.proofs.Common.{◌≡◌, ◌≢◌, ◌≤◌, ◌+◌, ◌-◌, ℕ, zero, suc, List, [], ◌∷◌, ◌++◌, length, drop, refl, ap, sym, ◌∙◌, arith, append_assoc}
-use Rattle.std.specs.Prelude.{Option, Some, None, encode_utf8_all}
+use Rattle.std.proofs.Common.{◌≡◌, ◌≤◌, ◌-◌, ℕ, zero, suc, List, [], ◌∷◌, ◌++◌, length, drop, refl, ap, sym, ◌∙◌, arith, append_assoc}
+use Rattle.std.specs.Prelude.{Some, None, encode_utf8_all}
 use Rattle.std.specs.Char.{encode_utf8}
 use Rattle.sv_lex.specs.declared.strings.Quote.{Quote}
 use Rattle.sv_lex.specs.Literals.{text_of}

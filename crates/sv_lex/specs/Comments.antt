@@ -1,5 +1,5 @@
 -- White space and comments: `//` to the end of the line, and `/*` to the next `*/`. LF alone ends a line.
-use Rattle.std.specs.Prelude.{ℕ, ◌+◌, Bool, not, ◌&&◌, ◌==◌, List, [], ◌∷◌, drop, slice_index, if◌then◌else◌}
+use Rattle.std.specs.Prelude.{ℕ, ◌+◌, not, ◌&&◌, ◌==◌, List, [], ◌∷◌, drop, slice_index, if◌then◌else◌}
 use Rattle.std.specs.List.{prefix_len}
 use Rattle.sv_lex.specs.declared.characters.Class.TheVariants.{Space}
 use Rattle.sv_lex.specs.Characters.{char_len}

@@ -1,5 +1,5 @@
 -- Digits, and the numbers that they write (ECMA-262, section 12.9.3).
-use Rattle.std.specs.Prelude.{ℕ, ◌+◌, ◌-◌, ◌*◌, Bool, ◌&&◌, nat_le, nat_lt, List, fold, if◌then◌else◌}
+use Rattle.std.specs.Prelude.{ℕ, ◌+◌, ◌-◌, ◌*◌, ◌&&◌, nat_le, nat_lt, List, fold, if◌then◌else◌}
 use Rattle.std.specs.List.{prefix_len}
 use Rattle.sv_lex.specs.declared.digits.Base.{Base}
 use Rattle.sv_lex.specs.declared.digits.Base.TheVariants.{Ten, Sixteen}

@@ -1,5 +1,5 @@
 -- What is read is the longest that stands there.
-use Rattle.std.specs.Prelude.{◌≡◌, ℕ, List, slice_index, Option, None}
+use Rattle.std.specs.Prelude.{◌≡◌, ℕ, List, slice_index, None}
 use Rattle.sv_lex.specs.declared.pieces.Piece.{Piece}
 use Rattle.sv_lex.specs.Pieces.{piece_len, rest}
 use Rattle.sv_lex.specs.Signs.{sign, of_two, of_three}

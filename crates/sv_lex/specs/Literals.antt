@@ -1,8 +1,6 @@
 -- What numerals, strings and the runs of templates stand for.
-use Rattle.std.specs.Prelude.{◌≡◌, ℕ, ◌+◌, Bool, ◌&&◌, ◌==◌, nat_le, List, drop, slice_index, Result, Ok, Err, if◌then◌else◌, ℤ, pos, encode_utf8_all}
-use Rattle.sv_base.specs.declared.span.Span.{Span}
+use Rattle.std.specs.Prelude.{ℕ, ◌+◌, Bool, ◌&&◌, ◌==◌, nat_le, List, drop, slice_index, Ok, Err, if◌then◌else◌, ℤ, pos, encode_utf8_all}
 use Rattle.sv_ast.specs.declared.refusals.Kind.TheVariants.{Syntax, NumberTooWide}
-use Rattle.sv_ast.specs.declared.refusals.Refused.{Refused}
 use Rattle.sv_lex.specs.declared.cursor.Run.{Run}
 use Rattle.sv_lex.specs.declared.digits.Base.TheVariants.{Ten}
 use Rattle.sv_lex.specs.declared.pieces.Piece.TheVariants.{Written}
@@ -11,7 +9,7 @@ use Rattle.sv_lex.specs.declared.strings.Quote.TheVariants.{Single, Double, Back
 use Rattle.sv_lex.specs.Digits.{number}
 use Rattle.sv_lex.specs.Look.{skip}
 use Rattle.sv_lex.specs.Pieces.{rest, run_len}
-use Rattle.sv_lex.specs.Reader.{Input, Outcome, Parser, spelling, next, refuse}
+use Rattle.sv_lex.specs.Reader.{Input, Parser, spelling, next, refuse}
 use Rattle.sv_lex.specs.Strings.{chars_by}
 
 -- the number that the next token writes; one that is wider than the limit is refused at its digits

@@ -1,6 +1,6 @@
 -- What a parser reads from, and the steps that its rules are made of. A parser is a function on lists: it gives a tree and
 -- what is left, or the refusal. Want of memory is nowhere in it.
-use Rattle.std.specs.Prelude.{◌≡◌, ℕ, ◌+◌, ◌-◌, Bool, true, false, if◌then◌else◌, ◌==◌, List, ◌++◌, length, take, drop, slice_get, Option, Some, None, Result, Ok, Err, refl}
+use Rattle.std.specs.Prelude.{◌≡◌, ℕ, ◌+◌, ◌-◌, Bool, false, if◌then◌else◌, ◌==◌, List, ◌++◌, length, take, drop, slice_get, Option, Some, None, Result, Ok, Err, refl}
 use Rattle.std.specs.Str.{bytes_eq}
 use Rattle.std.specs.Coded.{Coded, code_by, coded×, coded_ℕ, coded_list}
 use Rattle.sv_base.specs.declared.span.Span.{Span}

@@ -1,6 +1,6 @@
 -- The listing of a compiled program: of each component its cells, its reactive statements in the order in which they run, and the
 -- expressions of its markup, each with what it looks at.
-use Rattle.std.specs.Prelude.{◌≡◌, ℕ, true, List, [], ◌∷◌, ◌++◌, All, map, codes, decimal}
+use Rattle.std.specs.Prelude.{◌≡◌, ℕ, true, List, [], ◌++◌, All, map, codes, decimal}
 use Rattle.std.specs.List.{flat_map, enumerate_from}
 use Rattle.sv_ast.specs.declared.names.Ref.{Ref}
 use Rattle.sv_base.specs.declared.span.Span.{Span}

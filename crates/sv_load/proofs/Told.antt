@@ -1,5 +1,5 @@
 -- Answers about files that may be told.
-use Rattle.std.proofs.Common.{◌≡◌, ◌≤◌, ℕ, ◌-◌, Option, sym, arith, subst, IsErr, IsErrAnd}
+use Rattle.std.proofs.Common.{◌≡◌, ◌≤◌, ℕ, Option, sym, arith, subst, IsErr, IsErrAnd}
 use Rattle.std.specs.Prelude.{Some, None, Result, Ok, Err, IfSome}
 use Rattle.sv_io.specs.Faults.{Rose}
 use Rattle.sv_load.specs.Loads.{Tells}

@@ -1,29 +1,25 @@
 -- The code of a tree names functions that are there: an induction over trees, a line a form.
-use Rattle.std.proofs.Common.{◌≡◌, ℕ, List, [], ◌∷◌, ◌++◌, Option, None, Some, map, option_map, refl, sym, subst}
-use Rattle.sv_ast.specs.declared.script_tree.Body.{Body, Body-F, roll-Body, map-Body, fold-roll-Body, ind-Body}
-use Rattle.sv_ast.specs.declared.script_tree.Entry.{Entry, Entry-F, roll-Entry, map-Entry, fold-roll-Entry, ind-Entry}
-use Rattle.sv_ast.specs.declared.script_tree.ExprKind.{ExprKind, ExprKind-F, roll-ExprKind, map-ExprKind, fold-roll-ExprKind, ind-ExprKind}
-use Rattle.sv_ast.specs.declared.script_tree.Field.{Field, Field-F, roll-Field, map-Field, fold-roll-Field, ind-Field}
-use Rattle.sv_ast.specs.declared.script_tree.StmtKind.{StmtKind, StmtKind-F, roll-StmtKind, map-StmtKind, fold-roll-StmtKind, ind-StmtKind}
-use Rattle.sv_ast.specs.declared.script_tree.Arm.{Arm, Arm-F, roll-Arm, map-Arm, fold-roll-Arm, ind-Arm}
-use Rattle.sv_ast.specs.declared.script_tree.Decl.{Decl, Decl-F, roll-Decl, map-Decl, fold-roll-Decl, ind-Decl}
+use Rattle.std.proofs.Common.{◌≡◌, List, [], ◌∷◌, ◌++◌, Option, None, Some, map, option_map, refl, sym, subst}
+use Rattle.sv_ast.specs.declared.script_tree.Body.{Body, Body-F, roll-Body, map-Body, fold-roll-Body}
+use Rattle.sv_ast.specs.declared.script_tree.Entry.{Entry, Entry-F, roll-Entry, map-Entry, fold-roll-Entry}
+use Rattle.sv_ast.specs.declared.script_tree.ExprKind.{ExprKind, ExprKind-F, roll-ExprKind, map-ExprKind, fold-roll-ExprKind}
+use Rattle.sv_ast.specs.declared.script_tree.Field.{Field, Field-F, roll-Field, map-Field, fold-roll-Field}
+use Rattle.sv_ast.specs.declared.script_tree.StmtKind.{StmtKind, StmtKind-F, roll-StmtKind, map-StmtKind, fold-roll-StmtKind}
+use Rattle.sv_ast.specs.declared.script_tree.Arm.{Arm, Arm-F, roll-Arm, map-Arm, fold-roll-Arm}
+use Rattle.sv_ast.specs.declared.script_tree.Decl.{Decl, Decl-F, roll-Decl, map-Decl, fold-roll-Decl}
 use Rattle.sv_ast.specs.declared.script_tree.Expr.{Expr, Expr-F, roll-Expr, map-Expr, fold-roll-Expr, ind-Expr}
-use Rattle.sv_ast.specs.declared.script_tree.Link.{Link, Link-F, roll-Link, map-Link, fold-roll-Link, ind-Link}
+use Rattle.sv_ast.specs.declared.script_tree.Link.{Link, Link-F, roll-Link, map-Link, fold-roll-Link}
 use Rattle.sv_ast.specs.declared.script_tree.Stmt.{Stmt, Stmt-F, roll-Stmt, map-Stmt, fold-roll-Stmt, ind-Stmt}
-use Rattle.sv_code.specs.declared.code.Code
-use Rattle.sv_code.specs.declared.code.Code.{Code as CodeT, Code-F, fold-roll-Code}
+use Rattle.sv_code.specs.declared.code.Code.{Code as CodeT, fold-roll-Code}
 use Rattle.sv_code.specs.declared.code.CodeField
 use Rattle.sv_code.specs.declared.code.CodeField.{CodeField as CodeFieldT, CodeField-F, fold-roll-CodeField}
 use Rattle.sv_code.specs.declared.code.CodeItem
 use Rattle.sv_code.specs.declared.code.CodeItem.{CodeItem as CodeItemT, CodeItem-F, fold-roll-CodeItem}
 use Rattle.sv_code.specs.declared.code.CodeKind
 use Rattle.sv_code.specs.declared.code.CodeKind.{CodeKind as CodeKindT, CodeKind-F, fold-roll-CodeKind}
-use Rattle.sv_code.specs.declared.code.CodeLink
-use Rattle.sv_code.specs.declared.code.CodeLink.{CodeLink as CodeLinkT, CodeLink-F, fold-roll-CodeLink}
-use Rattle.sv_code.specs.declared.functions.CodeArm
-use Rattle.sv_code.specs.declared.functions.CodeArm.{CodeArm as CodeArmT, CodeArm-F, fold-roll-CodeArm}
-use Rattle.sv_code.specs.declared.functions.CodeStmt
-use Rattle.sv_code.specs.declared.functions.CodeStmt.{CodeStmt as CodeStmtT, CodeStmt-F, fold-roll-CodeStmt}
+use Rattle.sv_code.specs.declared.code.CodeLink.{CodeLink as CodeLinkT, fold-roll-CodeLink}
+use Rattle.sv_code.specs.declared.functions.CodeArm.{CodeArm as CodeArmT, fold-roll-CodeArm}
+use Rattle.sv_code.specs.declared.functions.CodeStmt.{CodeStmt as CodeStmtT, fold-roll-CodeStmt}
 use Rattle.sv_code.specs.declared.functions.CodeStmtKind
 use Rattle.sv_code.specs.declared.functions.CodeStmtKind.{CodeStmtKind as CodeStmtKindT, CodeStmtKind-F, fold-roll-CodeStmtKind}
 use Rattle.sv_ast.specs.declared.names.Named.{Named}
@@ -36,7 +32,7 @@ use Rattle.sv_code.specs.declared.functions.CodeStmtKind.TheVariants as stmt_cod
 use Rattle.sv_code.specs.declared.functions.FunctionBody.TheVariants as body_code
 use Rattle.sv_code.specs.Numbers as numbers
 use Rattle.sv_code.specs.Numbers.{Number, OfFunction, joined}
-use Rattle.sv_lower.specs.Does.{Does, just, of_one, of_two, of_three, of_four, each, given}
+use Rattle.sv_lower.specs.Does.{Does, just, of_one, each, given}
 use Rattle.sv_lower.specs.Lower as lower
 use Rattle.sv_lower.proofs.Keeping.{Keeps, just_keeps, one_keeps, two_keeps, three_keeps, four_keeps, each_keeps, given_keeps, numbered_keeps}
 

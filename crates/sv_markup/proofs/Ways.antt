@@ -1,5 +1,5 @@
 -- What holds between a text and what a rule of markup leaves of it, where each step keeps it.
-use Rattle.std.proofs.Common.{◌≡◌, ◌≤◌, ◌+◌, ◌-◌, ℕ, Bool, List, length, refl, arith}
+use Rattle.std.proofs.Common.{◌≡◌, ◌≤◌, ◌+◌, ℕ, Bool, List, length, refl, arith}
 use Rattle.std.specs.Prelude.{Option}
 use Rattle.sv_ast.specs.declared.markup_tree.Branch.{Branch}
 use Rattle.sv_ast.specs.declared.markup_tree.Markup.{Markup}

@@ -1,8 +1,7 @@
 -- The first of what is offered.
-use Rattle.std.proofs.Common.{◌≡◌, ℕ, ◌<◌, ◌≤◌, Bool, true, false, cond, List, [], ◌∷◌, ◌++◌, Option, None, Some, All, map, fold, refl, sym, ap, ◌∙◌, inl, inr, subst, arith, append_assoc}
-use Rattle.std.specs.Prelude.{nat_lt}
+use Rattle.std.proofs.Common.{◌≡◌, ◌<◌, ◌≤◌, cond, List, [], ◌∷◌, ◌++◌, Option, None, Some, All, fold, refl, sym, ap, ◌∙◌, inl, inr, subst, arith, append_assoc}
 use Rattle.std.specs.List.{flat_map}
-use Rattle.std.proofs.lemmas.Bool.{cases_Bool, cases_lt, lt-ltb, le-ltb}
+use Rattle.std.proofs.lemmas.Bool.{cases_lt, lt-ltb, le-ltb}
 use Rattle.std.proofs.lemmas.Grind.{flat_map-append}
 use Rattle.std.proofs.lemmas.List.{append-nil, map-append}
 use Rattle.std.proofs.lemmas.List.Elements.{All-nil, All-cons, All-append, All-push, All-weaker}
@@ -13,7 +12,7 @@ use Rattle.sv_resolve.specs.declared.refusals.CheckRefusal.{CheckRefusal}
 use Rattle.sv_scopes.specs.declared.words.FileScopes.{FileScopes}
 use Rattle.sv_scopes.specs.declared.words.Scope.{Scope}
 use Rattle.sv_base.specs.declared.span.Span.{Span}
-use Rattle.sv_resolve.specs.Earliest.{earlier, IsEarliest, IsFirst}
+use Rattle.sv_resolve.specs.Earliest.{earlier, IsFirst}
 use Rattle.sv_resolve.specs.Mistakes.{Texts, refused, all_scopes, declared_twice, unknown_names, constant_assigns, captured_assigns, mistakes}
 
 abbrev IsBefore : CheckRefusal → CheckRefusal → Type 0

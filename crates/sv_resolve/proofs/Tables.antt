@@ -1,5 +1,5 @@
 -- Names are the same names, each once.
-use Rattle.std.proofs.Common.{◌≡◌, Bool, cond, List, map, filter, fold, Option, refl, sym, ap, ◌∙◌}
+use Rattle.std.proofs.Common.{◌≡◌, Bool, cond, List, map, filter, ap, ◌∙◌}
 use Rattle.std.specs.Prelude.{not, ◌&&◌}
 use Rattle.std.proofs.lemmas.List.Elements.{filter_agree}
 use Rattle.sv_ast.specs.declared.names.Ref.{Ref}

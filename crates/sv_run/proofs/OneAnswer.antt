@@ -2,7 +2,6 @@
 use Rattle.std.proofs.Common.{◌≡◌, ◌<◌, ◌≤◌, ℕ, List, [], get_or, length, Option, refl, ap, sym, subst, ◌∙◌, arith}
 use Rattle.std.specs.Prelude.{Some, None, Result, Ok, Err, slice_get}
 use Rattle.sv_ast.specs.declared.files.Bundle.{Bundle}
-use Rattle.sv_ast.specs.declared.files.SourceFile.{SourceFile}
 use Rattle.sv_check.specs.Checked.{IsClean, AreChecked, IsOneMistake, IsMistakeOrClean}
 use Rattle.sv_compile.specs.Compile.{program}
 use Rattle.sv_compile.specs.Laws.{IsOneProgram}

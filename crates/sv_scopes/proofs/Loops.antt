@@ -1,5 +1,5 @@
 -- What is found in the loops.
-use Rattle.std.proofs.Common.{◌≡◌, Bool, List, [], ◌∷◌, Option, None, Some, option_map, sym, ap, ◌∙◌, subst}
+use Rattle.std.proofs.Common.{◌≡◌, Bool, [], ◌∷◌, Option, None, Some, option_map, sym, ap, ◌∙◌, subst}
 use Rattle.sv_ast.specs.declared.names.Named.{Named}
 use Rattle.sv_ast.specs.declared.script_tree.Expr.{Expr}
 use Rattle.sv_ast.specs.declared.script_tree.Stmt.{Stmt}
@@ -7,7 +7,7 @@ use Rattle.sv_ast.specs.declared.script_tree.StmtKind
 use Rattle.sv_ast.specs.declared.script_tree.StmtKind.{StmtKind as AnyStmt, StmtKind-F, fold-roll-StmtKind}
 use Rattle.sv_scopes.specs.declared.found.Around.{Around}
 use Rattle.sv_scopes.specs.declared.words.Binding.{Binding}
-use Rattle.sv_scopes.specs.Parts.{Parts, Finds, followed, optional, declaring, scope, closed}
+use Rattle.sv_scopes.specs.Parts.{Parts, Finds, followed, optional, declaring, scope}
 use Rattle.sv_scopes.specs.Script.{InRole, AtPlace, ByBinding, alone, given, declared, for_binding, for_head, for_each, body, entry, expr_kind, field, stmt_kind, arm, decl, expr, link, stmt, expr_parts, stmt_parts, stmt_kind_parts}
 use Rattle.sv_scopes.proofs.Scoping.{finds_two, finds_closed}
 

@@ -1,6 +1,5 @@
 -- Scopes that are opened and closed.
-use Rattle.std.proofs.Common.{◌≡◌, Bool, List, [], ◌∷◌, ◌++◌, map, refl, sym, ap, ◌∙◌, append_assoc}
-use Rattle.std.proofs.lemmas.List.{append-nil}
+use Rattle.std.proofs.Common.{◌≡◌, Bool, [], ◌∷◌, ◌++◌, ap, ◌∙◌, append_assoc}
 use Rattle.sv_scopes.specs.declared.found.Around.{Around}
 use Rattle.sv_scopes.specs.Parts.{Parts, Finds, followed, names_of, handed, made, closed}
 

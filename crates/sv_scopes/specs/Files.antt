@@ -6,7 +6,6 @@ use Rattle.sv_ast.specs.declared.markup_tree.Branch.{Branch}
 use Rattle.sv_ast.specs.declared.markup_tree.Markup.{Markup, Markup-F, out-Markup}
 use Rattle.sv_ast.specs.declared.names.Ref.{Ref}
 use Rattle.sv_ast.specs.declared.names.Ref.TheVariants.{Plain}
-use Rattle.sv_ast.specs.declared.operators.AssignOp.{AssignOp}
 use Rattle.sv_ast.specs.declared.operators.AssignOp.TheVariants.{Set}
 use Rattle.sv_ast.specs.declared.script_tree.ExprKind.{ExprKind-F, out-ExprKind}
 use Rattle.sv_ast.specs.declared.script_tree.Stmt.{Stmt}

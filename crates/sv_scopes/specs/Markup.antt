@@ -1,6 +1,6 @@
 -- What is found in markup. A row of an each block is a scope with its key and its content, and so is slot content with its `let:`
 -- names (Svelte 4 docs, '{#each}' and '<slot key={value}>').
-use Rattle.std.specs.Prelude.{Bool, true, false, List, [], ◌∷◌, ◌++◌, Option, None, Some, map, option_map, if◌then◌else◌}
+use Rattle.std.specs.Prelude.{Bool, false, List, [], ◌∷◌, Option, map, option_map, if◌then◌else◌}
 use Rattle.std.specs.List.{flat_map}
 use Rattle.std.specs.Option.{option_to_list}
 use Rattle.sv_ast.specs.declared.markup_tree.Branch.{Branch, Branch-F, fold-Branch}
@@ -12,7 +12,6 @@ use Rattle.sv_ast.specs.declared.names.Ref.TheVariants.{Plain}
 use Rattle.sv_ast.specs.declared.script_tree.Expr.{Expr}
 use Rattle.sv_base.specs.declared.names.Name.{Name}
 use Rattle.sv_base.specs.declared.span.Span.{Span}
-use Rattle.sv_scopes.specs.declared.words.Binding.TheVariants.{Local}
 use Rattle.sv_scopes.specs.declared.words.Declared.{Declared}
 use Rattle.sv_scopes.specs.declared.words.Form.TheVariants.{Read}
 use Rattle.sv_scopes.specs.declared.words.Role.TheVariants.{Tag}

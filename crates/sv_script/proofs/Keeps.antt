@@ -1,9 +1,6 @@
 -- What a file and an expression leave know the same names.
-use Rattle.std.proofs.Common.{◌≡◌, ℕ, Bool, List, refl, ◌∙◌, subst}
+use Rattle.std.proofs.Common.{◌≡◌, ℕ, refl, ◌∙◌, subst}
 use Rattle.std.specs.Prelude.{◌==◌, Ok}
-use Rattle.sv_ast.specs.declared.script_tree.Expr.{Expr}
-use Rattle.sv_ast.specs.declared.script_tree.Stmt.{Stmt}
-use Rattle.sv_lex.specs.declared.cursor.Run.{Run}
 use Rattle.sv_lex.specs.declared.pieces.Piece.TheVariants.{Written}
 use Rattle.sv_lex.specs.declared.strings.Quote.TheVariants.{Back}
 use Rattle.sv_lex.specs.Literals.{run, end_len}

@@ -1,5 +1,5 @@
 -- One written character more, or none.
-use Rattle.std.proofs.Common.{◌≡◌, ◌≤◌, ◌+◌, ◌-◌, ℕ, zero, suc, List, [], ◌∷◌, ◌++◌, length, drop, refl, ap, sym, ◌∙◌, arith, append_assoc, length-drop}
+use Rattle.std.proofs.Common.{◌≡◌, ◌≤◌, ◌-◌, ℕ, zero, suc, List, [], ◌∷◌, ◌++◌, length, drop, refl, ap, sym, ◌∙◌, arith, append_assoc, length-drop}
 use Rattle.std.specs.Prelude.{Some, None, encode_utf8_all}
 use Rattle.std.specs.Char.{encode_utf8}
 use Rattle.std.proofs.lemmas.List.{append-nil}

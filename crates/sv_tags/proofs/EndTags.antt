@@ -1,5 +1,5 @@
 -- Attributes and openings of the grammar are read, each from its parts.
-use Rattle.std.proofs.Common.{◌≡◌, ◌≢◌, ◌≤◌, ◌+◌, ◌-◌, inl, ℕ, zero, suc, Bool, true, false, cond, ◌&&◌, List, [], ◌∷◌, length, refl, sym, subst, arith}
+use Rattle.std.proofs.Common.{◌≡◌, ◌≢◌, ◌≤◌, ◌+◌, inl, ℕ, zero, suc, Bool, true, false, cond, ◌&&◌, List, [], ◌∷◌, length, refl, sym, subst, arith}
 use Rattle.std.specs.Prelude.{◌==◌, Option, Some, None, Ok, codes}
 use Rattle.std.specs.Str.{bytes_eq}
 use Rattle.sv_ast.specs.declared.markup_tree.AttrKind.{AttrKind}

@@ -32,7 +32,7 @@ use Rattle.sv_tags.specs.Grammar as g
 use Rattle.sv_script.specs.Script.{expression}
 use Rattle.sv_tags.specs.Holes.{read_target, read_name, filled, opened, braces}
 use Rattle.sv_script.specs.Closed.{ExpressionAt}
-use Rattle.sv_tags.specs.Texts.{closing, ends_at, text}
+use Rattle.sv_tags.specs.Texts.{closing, ends_at}
 use Rattle.sv_tags.specs.Values.{shown, quote_of, in_braces, unquoted, part, parts_from, parts, in_quotes, assigned, value, only_braces, directive_value}
 use Rattle.sv_tags.proofs.Bytes.{is_same, is_other, byte_left, left-moved}
 use Rattle.sv_tags.proofs.Lengths.{text_stands}

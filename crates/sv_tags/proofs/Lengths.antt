@@ -1,5 +1,5 @@
 -- Texts that are read stand there, and what they leave is shorter.
-use Rattle.std.proofs.Common.{◌≡◌, ◌≤◌, ◌+◌, ◌-◌, ℕ, zero, suc, Bool, true, false, cond, List, length, drop, refl, ap, sym, ◌∙◌, subst, arith}
+use Rattle.std.proofs.Common.{◌≡◌, ◌≤◌, ◌+◌, ℕ, zero, suc, Bool, true, false, cond, List, length, drop, refl, ap, sym, ◌∙◌, subst, arith}
 use Rattle.std.specs.Prelude.{◌==◌, None, Ok, Err}
 use Rattle.bstr.specs.Utf8.{decoded}
 use Rattle.sv_ast.specs.declared.refusals.Refused.{Refused}

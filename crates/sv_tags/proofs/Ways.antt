@@ -1,5 +1,5 @@
 -- What holds between a text and what a rule of tags leaves of it, where each step keeps it.
-use Rattle.std.proofs.Common.{◌≡◌, ◌≤◌, ◌+◌, ◌-◌, ℕ, Bool, List, length, refl, ◌∙◌, subst, arith, length-drop}
+use Rattle.std.proofs.Common.{◌≡◌, ◌≤◌, ◌+◌, ℕ, Bool, List, length, refl, ◌∙◌, subst, arith, length-drop}
 use Rattle.std.specs.Prelude.{◌==◌, Ok}
 use Rattle.sv_ast.specs.declared.markup_tree.AttrPart.{AttrPart}
 use Rattle.sv_ast.specs.declared.markup_tree.AttrValue.{AttrValue}
@@ -9,7 +9,6 @@ use Rattle.sv_ast.specs.declared.names.Named.{Named}
 use Rattle.sv_ast.specs.declared.names.Ref.{Ref}
 use Rattle.sv_ast.specs.declared.script_tree.Expr.{Expr}
 use Rattle.sv_ast.specs.declared.script_tree.Stmt.{Stmt}
-use Rattle.sv_lex.specs.declared.lexeme.Lexeme.TheVariants as k
 use Rattle.sv_lex.specs.Literals.{moved}
 use Rattle.sv_lex.specs.Look.{past}
 use Rattle.sv_lex.specs.Reader.{Input, next, spelling, knowing, name, left}

@@ -1,4 +1,4 @@
-use Rattle.std.proofs.Common.{◌≡◌, sym, ◌∙◌, arith}
+use Rattle.std.proofs.Common.{sym, ◌∙◌, arith}
 use Rattle.sv_lex.proofs.Closings.{close_len-none, close_len-here, close_len-later}
 use Rattle.sv_lex.proofs.comments.close_len.Goals as goal
 use Rattle.sv_lex.proofs.comments.close_len.Goals.{else-z-at-eq42-via-then-z-at-eq42+else-byte-eq47, else-z-at-eq42-via-else-z-at-eq42}

@@ -1,4 +1,4 @@
-use Rattle.std.proofs.Common.{◌≡◌, ◌≢◌, ◌≤◌, ◌+◌, ◌++◌, length, refl, sym, ◌∙◌, ap, arith, length-append}
+use Rattle.std.proofs.Common.{◌≡◌, ◌≢◌, ◌+◌, length, refl, sym, ◌∙◌, arith, length-append}
 use Rattle.sv_base.specs.Names.{number_of}
 use Rattle.sv_lex.proofs.Joined.{number_of-front, number_of-back, number_of-le, IsTable-with_text}
 use Rattle.sv_lex.proofs.naming.intern.Goals as goal

@@ -1,7 +1,7 @@
-use Rattle.std.proofs.Common.{◌≡◌, ◌≢◌, sym, ◌∙◌, ap, drop, arith}
+use Rattle.std.proofs.Common.{◌≢◌, sym, ◌∙◌, arith}
 use Rattle.std.proofs.lemmas.Grind.{common_steps}
 use Rattle.std.proofs.lemmas.List.{take_rest}
-use Rattle.sv_lex.specs.Pieces.{piece_len, rest}
+use Rattle.sv_lex.specs.Pieces.{piece_len}
 use Rattle.sv_lex.proofs.Runs.{rest-none, rest-some}
 use Rattle.sv_lex.proofs.pieces.rest.Goals as goal
 

@@ -1,5 +1,4 @@
-use Rattle.std.proofs.Common.{◌≡◌, ◌≤◌, sym, ◌∙◌, length}
-use Rattle.bstr.specs.Utf8.{decoded}
+use Rattle.std.proofs.Common.{sym, ◌∙◌}
 use Rattle.sv_lex.proofs.Chars.{char_bounds}
 use Rattle.sv_lex.proofs.strings.written.Goals as goal
 

@@ -1,6 +1,6 @@
 use Rattle.std.proofs.Common.{◌≡◌, ◌++◌, map, drop}
 use Rattle.std.specs.List.{flat_map}
-use Rattle.sv_scopes.specs.Parts.{Parts, in_turn}
+use Rattle.sv_scopes.specs.Parts.{in_turn}
 use Rattle.sv_scopes.specs.Markup as spec
 use Rattle.sv_scopes.proofs.Leaving.{Leaves}
 use Rattle.sv_scopes.proofs.markup.+markup.Given as goal

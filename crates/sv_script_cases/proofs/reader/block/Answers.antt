@@ -1,4 +1,4 @@
-use Rattle.std.proofs.Common.{◌≡◌, ◌-◌, rules, arith, refl}
+use Rattle.std.proofs.Common.{◌≡◌, rules, arith, refl}
 use Rattle.std.proofs.lemmas.Grind.{common_steps}
 use Rattle.sv_script_cases.specs.Alone.{alone, empty_block}
 use Rattle.sv_expr.proofs.Turns.{deeper}

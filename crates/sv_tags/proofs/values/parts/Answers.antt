@@ -1,4 +1,4 @@
-use Rattle.std.proofs.Common.{◌-◌, rules, arith}
+use Rattle.std.proofs.Common.{rules, arith}
 use Rattle.std.proofs.lemmas.Grind.{common_steps}
 use Rattle.sv_expr.proofs.Turns.{one_more, no_more}
 use Rattle.sv_expr.specs.Limits.{real}
