@@ -221,7 +221,8 @@ fn twice(alloc: Global, value: Value) -> Result<Value, ValueFault> {
 #[test]
 fn a_shared_value_is_the_same(rt: HostRuntime) -> Result<(), Fail> {
     let alloc = rt.alloc();
-    let middle = list_of(alloc, number(1))?;
+    let object = object_of(alloc, ("a", 1), ("b", 2))?;
+    let middle = list_of(alloc, object)?;
     let list = twice(alloc, middle)?;
     assert!(rt; same(&list, &list.share()?));
     Ok(())
