@@ -1,5 +1,4 @@
 // Why there is no tree.
-use std::alloc::{AllocError, AllocFailed};
 use sv_base::{NoMemory, Span};
 use thiserror::Error;
 
@@ -49,28 +48,6 @@ impl From<NoMemory> for ParseError {
     ghost from_gives = { λ _ e. e ≡ error.NoMemory };
 
     fn from(_: NoMemory) -> ParseError {
-        ParseError::NoMemory
-    }
-}
-
-impl From<AllocError> for ParseError {
-    ghost use Rattle.std.specs.Prelude.{◌≡◌};
-    ghost use Rattle.sv_ast.specs.declared.refusals.ParseError.TheVariants as error;
-
-    ghost from_gives = { λ _ e. e ≡ error.NoMemory };
-
-    fn from(_: AllocError) -> ParseError {
-        ParseError::NoMemory
-    }
-}
-
-impl<T: Drop> From<AllocFailed<T>> for ParseError {
-    ghost use Rattle.std.specs.Prelude.{◌≡◌};
-    ghost use Rattle.sv_ast.specs.declared.refusals.ParseError.TheVariants as error;
-
-    ghost from_gives = { λ _ e. e ≡ error.NoMemory };
-
-    fn from(_: AllocFailed<T>) -> ParseError {
         ParseError::NoMemory
     }
 }

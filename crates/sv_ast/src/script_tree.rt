@@ -3,8 +3,8 @@ ghost use Rattle.std.specs.Prelude.{◌≡◌, IfOk};
 
 use crate::names::{NameList, Named, Ref};
 use crate::operators::{AssignOp, Op};
-use std::alloc::{AllocError, Global};
-use sv_base::{Name, Num, Span, Text};
+use std::alloc::Global;
+use sv_base::{Name, NoMemory, Num, Span, Text};
 use sv_list::Boxed;
 
 /// Expressions, as the arguments of a call or the parts of a template.
@@ -40,8 +40,8 @@ pub struct Expr {
 }
 
 impl Expr {
-    /// An expression of this form, at this place. An error is want of memory.
-    pub fn new(alloc: Global, span: Span, kind: ExprKind) -> Result<Expr, AllocError>
+    /// An expression of this form, at this place.
+    pub fn new(alloc: Global, span: Span, kind: ExprKind) -> Result<Expr, NoMemory>
         ensures { IfOk result (λ made. made ≡ record { span = span; kind = kind }) }
     {
         let kind = Boxed::new(alloc, kind)?;
@@ -174,7 +174,7 @@ pub struct Import {
 }
 
 /// `given as local`. Without `as` both are the one name.
-#[derive(Drop)]
+#[derive(Clone, Copy)]
 pub struct Spec {
     pub given: Named,
     pub local: Named,
@@ -189,8 +189,8 @@ pub struct Stmt {
 }
 
 impl Stmt {
-    /// A statement of this form, at this place. An error is want of memory.
-    pub fn new(alloc: Global, span: Span, kind: StmtKind) -> Result<Stmt, AllocError>
+    /// A statement of this form, at this place.
+    pub fn new(alloc: Global, span: Span, kind: StmtKind) -> Result<Stmt, NoMemory>
         ensures { IfOk result (λ made. made ≡ record { span = span; kind = kind }) }
     {
         let kind = Boxed::new(alloc, kind)?;

@@ -8,6 +8,7 @@ use Rattle.std.specs.Cmp.Lexicographic.{bytes_decides}
 use Rattle.std.specs.declared.alloc.Global.{Global}
 use Rattle.indexmap.specs.IndexSet.{insert_key}
 use Rattle.sv_base.specs.Names.{number_of, with_text, IsTable}
+use Rattle.sv_base.specs.declared.limits.TheConstants.{NAME_LIMIT}
 
 position_or_len-map : {X Y : Type 0} (p : Y → Bool) (f : X → Y) (xs : List X) → position_or_len p (map f xs) ≡ position_or_len (λ x. p (f x)) xs
 position_or_len-map p f [] = refl
@@ -165,7 +166,7 @@ added t old new owned before at b e is place absent d =
     subst (λ z. Interned z (map string_bytes new) t at) e (subst (λ z. Interned (map string_bytes old) (map string_bytes new) z at) b whole)
 
 -- it stays a table
-pub still_table : (old new : List (String Global)) (owned : String Global) → IsTable (map string_bytes old) → length old ≢ 4294967295
+pub still_table : (old new : List (String Global)) (owned : String Global) → IsTable (map string_bytes old) → length old ≢ NAME_LIMIT
     → length new ≤ length old + 1 → IsDistinct string_eq new → IsTable (map string_bytes new)
 still_table old new owned table room more d =
     let few = table.few in let was = length-map string_bytes old in let now = length-map string_bytes new in

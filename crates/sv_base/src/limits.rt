@@ -3,6 +3,12 @@
 /// The most bytes that a file of a program may have.
 pub const FILE_LIMIT: usize = 1_048_576;
 
+/// The most files of a program.
+pub const FILE_COUNT_LIMIT: usize = 64;
+
+/// The most cells of a component.
+pub const CELL_LIMIT: usize = 248;
+
 /// The most bytes that an events file may have.
 pub const EVENTS_FILE_LIMIT: usize = 16_777_216;
 
@@ -17,11 +23,11 @@ pub const VALUE_DEPTH_LIMIT: u32 = 64;
 pub const VALUE_SIZE_LIMIT: u32 = 1_000_000;
 
 /// The most constructs of a file that enclose one another.
-pub const NEST_LIMIT: u32 = 32;
+pub const NEST_LIMIT: usize = 32;
 
 /// The most links of a chain: of the operators of one level, of the suffixes of one primary, or of the
 /// conditions of one `if`.
-pub const LINK_LIMIT: u32 = 1_000;
+pub const LINK_LIMIT: usize = 1_000;
 
 /// A text that is read by place has fewer bytes than this, so that each place and the one behind it is a `u32`.
 pub const TEXT_LIMIT: usize = 4_294_967_295;

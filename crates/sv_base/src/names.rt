@@ -1,5 +1,8 @@
 // Texts by number.
-ghost use Rattle.std.specs.Prelude.{◌≡◌, ℕ, ◌≤◌, ◌↔◌, ◌++◌, [], length, take, slice_get, IsNone, IfOk, OnOk, OnErr, IfSome};
+ghost use Rattle.std.specs.Prelude.{◌≡◌, ℕ, ◌≤◌, ◌↔◌, ◌++◌, [], length, take, map, slice_get, IsNone, IfOk, OnOk, OnErr, IfSome};
+ghost use Rattle.std.specs.List.{list_any};
+ghost use Rattle.std.specs.Str.{bytes_eq};
+ghost use Rattle.sv_base.specs.Names as spec;
 ghost use Rattle.sv_base.specs.Names.{number_of, with_text, IsTable};
 
 use crate::NoMemory;
@@ -106,6 +109,15 @@ impl Names {
         Ok(())
     }
 
+    /// A table of the same names.
+    pub fn copy(&self) -> Result<Names, NoMemory>
+        ensures { IfOk result (λ copy. copy ≡ self.now) }
+    {
+        let mut copy = Names::empty(self.alloc);
+        copy.append(self)?;
+        Ok(copy)
+    }
+
     /// The text of a name, or `None` exactly where its number is not given out.
     pub fn text(&self, name: Name) -> Option<&str>
         ensures text { IfSome result (λ text. slice_get self.now name.0 ≡ Some text.now) }
@@ -114,4 +126,35 @@ impl Names {
         let text = self.texts.get_index(name.0 as usize)?;
         Some(text.as_str())
     }
+
+    /// Whether a name has this text.
+    pub fn is_text(&self, name: Name, text: &str) -> bool
+        ensures { result ≡ spec.is_text self.now text.now name }
+    {
+        match self.text(name) {
+            Some(found) => found == text,
+            None => false,
+        }
+    }
+
+    /// Whether a name has one of these texts.
+    pub fn is_one_of(&self, name: Name, texts: &[&str]) -> bool
+        ensures { result ≡ spec.is_one_of self.now (map (λ text. text.now) texts.now) name }
+    {
+        match self.text(name) {
+            Some(found) => is_among(found, texts),
+            None => false,
+        }
+    }
+}
+
+fn is_among(text: &str, texts: &[&str]) -> bool
+    ensures { result ≡ list_any (bytes_eq text.now) (map (λ other. other.now) texts.now) }
+{
+    for other in texts {
+        if text == *other {
+            return true;
+        }
+    }
+    false
 }

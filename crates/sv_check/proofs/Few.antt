@@ -1,4 +1,4 @@
--- A file whose 249th cell has no place has at most 248 cells.
+-- A file in which no cell is one too many has no more than it may.
 use Rattle.std.proofs.Common.{◌≡◌, ℕ, zero, suc, ◌+◌, ◌≤◌, Bool, true, false, List, [], ◌∷◌, ◌++◌, length, map, filter, refl, ap, ◌∙◌, arith, length-append}
 use Rattle.std.specs.Prelude.{slice_get, if◌then◌else◌}
 use Rattle.std.specs.Option.{option_to_list}
@@ -7,6 +7,8 @@ use Rattle.sv_ast.specs.declared.files.FileTree.{FileTree}
 use Rattle.sv_ast.specs.declared.files.FileTree.TheVariants as tree
 use Rattle.sv_ast.specs.declared.names.Ref.{Ref}
 use Rattle.sv_ast.specs.declared.names.Ref.TheVariants.{Plain}
+use Rattle.sv_base.specs.Names.{Table}
+use Rattle.sv_base.specs.declared.limits.TheConstants.{CELL_LIMIT}
 use Rattle.sv_names.specs.Distinct.{same_ref, has, with_name, with_names}
 use Rattle.sv_resolve.specs.declared.cells.Scopes.{Scopes}
 use Rattle.sv_resolve.specs.Cells.{is_variable, is_store, variables, stores, uses_view, scopes}
@@ -17,7 +19,7 @@ use Rattle.sv_scopes.specs.declared.words.Use.{Use}
 use Rattle.sv_scopes.specs.Files.{component_scopes}
 use Rattle.sv_check.specs.Cells.{store_places, first_view, cell_places, too_many}
 use Rattle.sv_check.specs.Checked.{told_scopes}
-use Rattle.sv_check.specs.Files.{Table, scopes_of}
+use Rattle.sv_check.specs.Files.{scopes_of}
 
 -- the places of one use more
 store_place : (table : Table) (known : List Ref) (u : Use) (uses : List Use) (s h : Bool) → is_store u.name ≡ s → has u.name known ≡ h
@@ -68,16 +70,16 @@ cells_places table top =
     let seen : length view ≡ length viewed = view_place top.uses in
     omega arith
 
--- a list without a 249th element is short
+-- a list without an element at a place is no longer than the place
 short : {A : Type 0} (xs : List A) (n : ℕ) → option_to_list (slice_get xs n) ≡ [] → length xs ≤ n
 short [] n e = omega arith
 short (x ∷ xs) zero e = let none = ap length e in absurd (omega arith)
 short (x ∷ xs) (suc n) e = let rest = short xs n e in omega arith
 
 -- the cells that are told of a file
-pub few_told : (table : Table) (t : FileTree) (told : Scopes) → told ≡ told_scopes t → too_many table (scopes_of t).top ≡ [] → length told.cells ≤ 248
+pub few_told : (table : Table) (t : FileTree) (told : Scopes) → told ≡ told_scopes t → too_many table (scopes_of t).top ≡ [] → length told.cells ≤ CELL_LIMIT
 few_told table (tree.Module m) told is none = rw (is) (omega arith)
 few_told table (tree.Component c) told is none =
     let same = ap (λ s. length s.cells) is ∙ cells_places table (component_scopes c).top in
-    let long = short (cell_places table (component_scopes c).top) 248 none in
+    let long = short (cell_places table (component_scopes c).top) CELL_LIMIT none in
     omega arith

@@ -2,6 +2,8 @@
 use Rattle.std.specs.Prelude.{Bool, not, ◌&&◌, List, [], ◌∷◌, ◌++◌, Option, None, Some, map, filter, slice_get, if◌then◌else◌}
 use Rattle.std.specs.Option.{option_to_list}
 use Rattle.sv_ast.specs.declared.names.Ref.{Ref}
+use Rattle.sv_base.specs.Names.{Table}
+use Rattle.sv_base.specs.declared.limits.TheConstants.{CELL_LIMIT}
 use Rattle.sv_base.specs.declared.span.Span.{Span}
 use Rattle.sv_names.specs.Distinct.{same_ref, has, with_name}
 use Rattle.sv_resolve.specs.Cells.{is_variable, is_store}
@@ -9,7 +11,6 @@ use Rattle.sv_resolve.specs.Places.{declaration_place, name_place}
 use Rattle.sv_scopes.specs.declared.words.Scope.{Scope}
 use Rattle.sv_scopes.specs.declared.words.TheConstants.{VIEW}
 use Rattle.sv_scopes.specs.declared.words.Use.{Use}
-use Rattle.sv_check.specs.Files.{Table}
 
 -- a store name that isn't known
 abbrev pub is_new_store : List Ref → Use → Bool
@@ -30,6 +31,6 @@ first_view (u ∷ uses) = if same_ref u.name VIEW then Some u.span else first_vi
 abbrev pub cell_places : Table → Scope → List Span
 cell_places table top = map (declaration_place table) (filter (λ d. is_variable d.by) top.declares) ++ store_places table [] top.uses ++ option_to_list (first_view top.uses)
 
--- at the 249th cell
+-- at the first cell that is one too many
 abbrev pub too_many : Table → Scope → List Span
-too_many table top = option_to_list (slice_get (cell_places table top) 248)
+too_many table top = option_to_list (slice_get (cell_places table top) CELL_LIMIT)

@@ -5,6 +5,7 @@ use Rattle.sv_ast.specs.declared.files.FileTree.{FileTree}
 use Rattle.sv_ast.specs.declared.files.FileTree.TheVariants as tree
 use Rattle.sv_ast.specs.declared.files.SourceFile.{SourceFile}
 use Rattle.sv_ast.specs.declared.names.Ref.{Ref}
+use Rattle.sv_base.specs.declared.limits.TheConstants.{CELL_LIMIT}
 use Rattle.sv_base.specs.declared.span.Span.{Span}
 use Rattle.sv_imports.specs.Cycles.{AreCycles}
 use Rattle.sv_imports.specs.Imports.{statements_of}
@@ -74,7 +75,7 @@ told_scopes (tree.Module m) = record { cells = []; constants = [] }
 -- has none of either
 pub record IsChecked (source : SourceFile) (c : CheckedComponent) : Type 0 where
   pub scopes_are : c.scopes ≡ told_scopes source.tree
-  pub few : length c.scopes.cells ≤ 248
+  pub few : length c.scopes.cells ≤ CELL_LIMIT
   pub order_is : IsOrder (reads (statements_of source.tree)) c.order.items
   pub once : IsEachOnce (reads (statements_of source.tree)) c.order.items
 

@@ -1,13 +1,9 @@
 -- What is asked of a file by itself: its scopes, and its statements.
-use Rattle.std.specs.Prelude.{ℕ, Bool, true, false, List}
+use Rattle.std.specs.Prelude.{Bool, true, false}
 use Rattle.sv_ast.specs.declared.files.FileTree.{FileTree}
 use Rattle.sv_ast.specs.declared.files.FileTree.TheVariants as tree
 use Rattle.sv_scopes.specs.declared.words.FileScopes.{FileScopes}
 use Rattle.sv_scopes.specs.Files.{component_scopes, module_scopes}
-
--- a table of names, as the list of their texts
-abbrev pub Table : Type 0
-Table = List (List ℕ)
 
 abbrev pub is_component : FileTree → Bool
 is_component (tree.Component c) = true

@@ -1,6 +1,6 @@
 -- Functions of the life of a component that stand where they may not (Svelte 4 docs, 'svelte': they are called while the component is
 -- made). They may be called as a whole statement at the top level of a component, or as the whole value of a name that one declares.
-use Rattle.std.specs.Prelude.{ℕ, nat_eq, Bool, not, ◌&&◌, List, [], ◌∷◌, ◌++◌, Option, None, Some, map, filter, codes, if◌then◌else◌}
+use Rattle.std.specs.Prelude.{ℕ, nat_eq, Bool, not, ◌&&◌, List, [], ◌∷◌, ◌++◌, Option, None, Some, map, filter, if◌then◌else◌}
 use Rattle.std.specs.List.{list_any, flat_map}
 use Rattle.std.specs.Str.{bytes_eq}
 use Rattle.sv_ast.specs.declared.names.Ref.{Ref}
@@ -11,24 +11,25 @@ use Rattle.sv_ast.specs.declared.script_tree.Import.{Import}
 use Rattle.sv_ast.specs.declared.script_tree.Spec.{Spec}
 use Rattle.sv_ast.specs.declared.script_tree.Stmt.{Stmt}
 use Rattle.sv_ast.specs.declared.script_tree.StmtKind.{StmtKind-F, out-StmtKind}
+use Rattle.sv_base.specs.BuiltIn.{life_functions}
+use Rattle.sv_base.specs.Names.{Table, is_one_of}
+use Rattle.sv_base.specs.declared.built_in.TheConstants.{LIFE_MODULE}
 use Rattle.sv_base.specs.declared.span.Span.{Span}
 use Rattle.sv_names.specs.Distinct.{has, firsts}
 use Rattle.sv_names.specs.Uses.{named}
-use Rattle.sv_imports.specs.Given.{life_functions, is_among}
 use Rattle.sv_resolve.specs.Places.{name_place}
 use Rattle.sv_scopes.specs.declared.words.Scope.{Scope}
 use Rattle.sv_scopes.specs.declared.words.Use.{Use}
 use Rattle.sv_scopes.specs.Script.{Layer, StmtLayer}
-use Rattle.sv_check.specs.Files.{Table}
 
 -- ---- the names of such functions
 
 -- the local names of those of some imported names that are such functions
 abbrev pub local_names : Table → List Spec → List Ref
-local_names table specs = map (λ spec. named spec.local) (filter (λ spec. is_among life_functions table spec.given.name) specs)
+local_names table specs = map (λ spec. named spec.local) (filter (λ spec. is_one_of table life_functions spec.given.name) specs)
 
 abbrev pub life_specs : Table → Import → List Ref
-life_specs table i = if bytes_eq i.from (codes "svelte") then local_names table i.specs else []
+life_specs table i = if bytes_eq i.from LIFE_MODULE.now then local_names table i.specs else []
 
 abbrev pub life_layer : Table → StmtLayer → List Ref
 life_layer table (StmtKind-F.Import i) = life_specs table i

@@ -5,12 +5,14 @@ use Rattle.sv_ast.specs.declared.files.FileTree.{FileTree}
 use Rattle.sv_ast.specs.declared.files.FileTree.TheVariants as tree
 use Rattle.sv_ast.specs.declared.files.SourceFile.{SourceFile}
 use Rattle.sv_ast.specs.declared.names.Ref.{Ref}
+use Rattle.sv_base.specs.Names.{Table}
 use Rattle.sv_base.specs.declared.span.Span.{Span}
-use Rattle.sv_impure.specs.Built.{built_in}
+use Rattle.sv_impure.specs.Built.{free_conversions}
 use Rattle.sv_impure.specs.Impure.{impure_markup}
 use Rattle.sv_imports.specs.Imports.{statements_of}
 use Rattle.sv_imports.specs.Unknown.{unknown_imports}
 use Rattle.sv_names.specs.Distinct.{firsts}
+use Rattle.sv_purity.specs.declared.scope.Known.{Known}
 use Rattle.sv_resolve.specs.declared.refusals.CheckKind.TheVariants.{ImportCycle, UnknownImport, BadStore, BadLifecyclePlace, ImpureMarkup, UnknownProp, UnknownSlot, BadBind, TooManyNames, ReactiveCycle}
 use Rattle.sv_resolve.specs.declared.refusals.CheckRefusal.{CheckRefusal}
 use Rattle.sv_resolve.specs.Cells.{variables}
@@ -22,7 +24,7 @@ use Rattle.sv_slots.specs.Props.{unknown_props}
 use Rattle.sv_slots.specs.Sheets.{sheet, sheets}
 use Rattle.sv_slots.specs.Slots.{unknown_slots}
 use Rattle.sv_check.specs.Cells.{too_many}
-use Rattle.sv_check.specs.Files.{Table, is_component, scopes_of}
+use Rattle.sv_check.specs.Files.{is_component, scopes_of}
 use Rattle.sv_check.specs.Life.{bad_life_places}
 use Rattle.sv_check.specs.Stores.{bad_stores}
 use Rattle.sv_check.specs.Waiting.{AreWaiting}
@@ -31,17 +33,18 @@ use Rattle.sv_check.specs.Waiting.{AreWaiting}
 abbrev pub at_file : List (List Span) → ℕ → List Span
 at_file places n = slice_index_or places n []
 
--- the pure functions of a file whose top level declares some names, and `String` and `Boolean` where it doesn't declare them, each once
-abbrev pub pure_in : Table → List (List Ref) → ℕ → List Ref → List Ref
-pure_in table pure n declared = firsts (slice_index_or pure n [] ++ built_in table (firsts declared))
+-- what is known in the file with a number, whose top level declares some names: its pure functions, and `String` and `Boolean` where it
+-- doesn't declare them
+abbrev pub known_in : Table → List (List Ref) → ℕ → List Ref → Known
+known_in table pure n declared = record { functions = firsts (slice_index_or pure n []); conversions = firsts (free_conversions table (firsts declared)) }
 
--- the names that may be called like pure functions at the top of a file's markup
-abbrev pub pure_names : Table → List (List Ref) → ℕ → FileTree → List Ref
-pure_names table pure n t = pure_in table pure n (names_of (scopes_of t).top.declares)
+-- what is known at the top of a file's markup
+abbrev pub known_at_top : Table → List (List Ref) → ℕ → FileTree → Known
+known_at_top table pure n t = known_in table pure n (names_of (scopes_of t).top.declares)
 
-abbrev pub impure_in : Table → List Ref → FileTree → List Span
-impure_in table pure (tree.Component c) = impure_markup table pure c
-impure_in table pure (tree.Module m) = []
+abbrev pub impure_in : Table → Known → FileTree → List Span
+impure_in table known (tree.Component c) = impure_markup table known c
+impure_in table known (tree.Module m) = []
 
 -- the variables of a file
 abbrev pub variables_of : FileTree → List Ref
@@ -70,7 +73,7 @@ file_mistakes bundle cycles pure n source waiting =
     ++ resolve.refused UnknownImport (at_file (unknown_imports bundle) n)
     ++ resolve.mistakes table (scopes_of t)
     ++ script_mistakes table t
-    ++ resolve.refused ImpureMarkup (impure_in table (pure_names table pure n t) t)
+    ++ resolve.refused ImpureMarkup (impure_in table (known_at_top table pure n t) t)
     ++ tag_mistakes (variables_of t) (sheets bundle) (sheet table bundle.files source)
     ++ resolve.refused TooManyNames (too_many table (scopes_of t).top)
     ++ resolve.refused ReactiveCycle waiting

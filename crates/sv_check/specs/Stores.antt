@@ -3,6 +3,7 @@
 use Rattle.std.specs.Prelude.{Bool, true, false, not, ◌&&◌, List, [], map, filter, if◌then◌else◌}
 use Rattle.sv_ast.specs.declared.names.Ref.{Ref}
 use Rattle.sv_ast.specs.declared.names.Ref.TheVariants.{Plain, Store}
+use Rattle.sv_base.specs.Names.{Table}
 use Rattle.sv_base.specs.declared.span.Span.{Span}
 use Rattle.sv_names.specs.Distinct.{has, firsts}
 use Rattle.sv_resolve.specs.Cells.{is_store}
@@ -13,7 +14,6 @@ use Rattle.sv_scopes.specs.declared.words.Declared.{Declared}
 use Rattle.sv_scopes.specs.declared.words.Scope.{Scope}
 use Rattle.sv_scopes.specs.declared.words.Use.{Use}
 use Rattle.sv_scopes.specs.Parts.{names_of}
-use Rattle.sv_check.specs.Files.{Table}
 
 abbrev pub may_hold : Binding → Bool
 may_hold Const = true

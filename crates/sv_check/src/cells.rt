@@ -8,14 +8,11 @@ ghost use Rattle.sv_check.specs.Cells as spec;
 
 use std::alloc::Global;
 use sv_ast::Ref;
-use sv_base::{Names, NoMemory, Span};
+use sv_base::{CELL_LIMIT, Names, NoMemory, Span};
 use sv_list::Items;
 use sv_names::Distinct;
 use sv_resolve::{declaration_place, is_store, is_variable, is_view, name_place};
 use sv_scopes::{Declared, Scope, Use};
-
-// The most cells of a component.
-const CELL_LIMIT: usize = 248;
 
 /// Where the first cell stands that is too many.
 pub(crate) fn too_many(alloc: Global, names: &Names, top: &Scope) -> Result<Items<Span>, NoMemory>

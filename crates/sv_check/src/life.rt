@@ -6,6 +6,7 @@ ghost use Rattle.sv_check.specs.Life as spec;
 use crate::called::{Places, free_places};
 use std::alloc::Global;
 use sv_ast::{Import, Ref, Spec, Stmt, StmtKind};
+use sv_base::built_in::LIFE_MODULE;
 use sv_base::{Names, NoMemory, Span};
 use sv_imports::is_life_function;
 use sv_list::Items;
@@ -76,7 +77,7 @@ fn add_stmt(life: &mut Distinct, names: &Names, stmt: &Stmt) -> Result<(), NoMem
 fn add_import(life: &mut Distinct, names: &Names, import: &Import) -> Result<(), NoMemory>
     ensures { OnOk result (life.new ≡ with_names life.old (spec.life_specs names.now import.now)) }
 {
-    if import.from.as_str() == "svelte" {
+    if import.from.as_str() == LIFE_MODULE {
         return add_specs(life, names, import.specs.as_slice());
     }
     Ok(())

@@ -14,9 +14,10 @@ use crate::first::offer_all;
 use std::alloc::Global;
 use sv_ast::{FileTree, Ref, RefList};
 use sv_base::{Names, NoMemory, Span};
-use sv_impure::{add_built_in, impure_markup};
+use sv_impure::{free_conversions, impure_markup};
 use sv_list::Items;
 use sv_names::Distinct;
+use sv_purity::Known;
 use sv_resolve::{CheckKind, CheckRefusal};
 use sv_scopes::Declared;
 use sv_slots::{Sheet, bad_binds, unknown_props, unknown_slots};
@@ -32,10 +33,10 @@ pub(crate) fn offer_impure(
     tree: &FileTree,
     declares: &[Declared],
 ) -> Result<(), NoMemory>
-    ensures { OnOk result (first.new ≡ fold earlier first.old (refused kind.ImpureMarkup (spec.impure_in names.now (spec.pure_in names.now pure.now n (names_of declares.now)) tree.now))) }
+    ensures { OnOk result (first.new ≡ fold earlier first.old (refused kind.ImpureMarkup (spec.impure_in names.now (spec.known_in names.now pure.now n (names_of declares.now)) tree.now))) }
 {
-    let pure = pure_names(alloc, names, pure, n, declares)?;
-    let places = impure_in(alloc, names, &pure, tree)?;
+    let known = known_in(alloc, names, pure, n, declares)?;
+    let places = impure_in(alloc, names, &known, tree)?;
     offer_all(first, CheckKind::ImpureMarkup, places.as_slice());
     Ok(())
 }
@@ -77,35 +78,37 @@ fn offer_own_tags(
 fn impure_in(
     alloc: Global,
     names: &Names,
-    pure: &Distinct,
+    known: &Known,
     tree: &FileTree,
 ) -> Result<Items<Span>, NoMemory>
-    ensures { IfOk result (λ places. places ≡ spec.impure_in names.now pure.now tree.now) }
+    ensures { IfOk result (λ places. places ≡ spec.impure_in names.now known.now tree.now) }
 {
     match tree {
-        FileTree::Component(c) => impure_markup(alloc, names, pure, c),
+        FileTree::Component(c) => impure_markup(alloc, names, known, c),
         FileTree::Module(_) => Ok(Items::new(alloc)),
     }
 }
 
-// The names that may be called like pure functions at the top of a file's markup.
-#[tactic(auto, using(sv_names::proofs::Names::with_names_append))]
-fn pure_names(
+// What is known at the top of a file's markup.
+fn known_in(
     alloc: Global,
     names: &Names,
     pure: &Items<RefList>,
     n: usize,
     declares: &[Declared],
-) -> Result<Distinct, NoMemory>
-    ensures { IfOk result (λ own. own ≡ spec.pure_in names.now pure.now n (names_of declares.now)) }
+) -> Result<Known, NoMemory>
+    ensures { IfOk result (λ known. known ≡ spec.known_in names.now pure.now n (names_of declares.now)) }
 {
-    let mut own = Distinct::new(alloc);
-    if let Some(known) = pure.as_slice().get(n) {
-        add_all(&mut own, known.as_slice())?;
+    let mut functions = Distinct::new(alloc);
+    if let Some(own) = pure.as_slice().get(n) {
+        add_all(&mut functions, own.as_slice())?;
     }
     let declared = declared_names(alloc, declares)?;
-    add_built_in(&mut own, names, &declared)?;
-    Ok(own)
+    let conversions = free_conversions(alloc, names, &declared)?;
+    Ok(Known {
+        functions,
+        conversions,
+    })
 }
 
 fn add_all(names: &mut Distinct, more: &[Ref]) -> Result<(), NoMemory>

@@ -1,5 +1,6 @@
 -- Compiled programs, by what holds of their own parts.
 use Rattle.std.specs.Prelude.{◌≡◌, ℕ, ◌<◌, ◌≤◌, Bool, true, false, List, Some, All, length, slice_get}
+use Rattle.sv_base.specs.declared.limits.TheConstants.{CELL_LIMIT}
 use Rattle.sv_code.specs.declared.functions.CodeStmt.{CodeStmt}
 use Rattle.sv_code.specs.declared.functions.CodeStmtKind.{CodeStmtKind-F, out-CodeStmtKind}
 use Rattle.sv_code.specs.declared.functions.Function.{Function}
@@ -29,9 +30,9 @@ pub record IsRun (cells : ℕ) (script : List CodeStmt) (run : Run) : Type 0 whe
   pub reads : All (λ n. n < cells) run.reads
   pub sets : All (λ n. n < cells) run.sets
 
--- a component has at most 248 cells, and all that it names is there
+-- a component has no more cells than it may, and all that it names is there
 pub record IsComponent (functions files : ℕ) (c : Component) : Type 0 where
-  pub few : length c.cells ≤ 248
+  pub few : length c.cells ≤ CELL_LIMIT
   pub props : All (λ n. n < length c.cells) c.props
   pub runs : All (IsRun (length c.cells) c.script) c.runs
   pub script : All (IsThere (functions_alone functions)) (of_stmts c.script)

@@ -1,9 +1,9 @@
 // Expressions.
 ghost use Rattle.std.specs.Prelude.{◌≡◌, IfOk};
 
-use std::alloc::{AllocError, Global};
+use std::alloc::Global;
 use sv_ast::{AssignOp, Op, Ref};
-use sv_base::{Name, Num, Span, Text};
+use sv_base::{Name, NoMemory, Num, Span, Text};
 use sv_list::Boxed;
 
 /// Expressions, as the arguments of a call or the parts of a template.
@@ -27,8 +27,8 @@ pub struct Code {
 }
 
 impl Code {
-    /// A code of this form, at this place. An error is want of memory.
-    pub fn new(alloc: Global, span: Span, kind: CodeKind) -> Result<Code, AllocError>
+    /// A code of this form, at this place.
+    pub fn new(alloc: Global, span: Span, kind: CodeKind) -> Result<Code, NoMemory>
         ensures { IfOk result (λ made. made ≡ record { span = span; kind = kind }) }
     {
         let kind = Boxed::new(alloc, kind)?;

@@ -2,9 +2,9 @@
 ghost use Rattle.std.specs.Prelude.{◌≡◌, IfOk};
 
 use crate::code::Code;
-use std::alloc::{AllocError, Global};
+use std::alloc::Global;
 use sv_ast::{Import, NameList, Named};
-use sv_base::Span;
+use sv_base::{NoMemory, Span};
 use sv_list::Boxed;
 
 /// Statements.
@@ -43,8 +43,8 @@ pub struct CodeStmt {
 }
 
 impl CodeStmt {
-    /// A statement of this form, at this place. An error is want of memory.
-    pub fn new(alloc: Global, span: Span, kind: CodeStmtKind) -> Result<CodeStmt, AllocError>
+    /// A statement of this form, at this place.
+    pub fn new(alloc: Global, span: Span, kind: CodeStmtKind) -> Result<CodeStmt, NoMemory>
         ensures { IfOk result (λ made. made ≡ record { span = span; kind = kind }) }
     {
         let kind = Boxed::new(alloc, kind)?;

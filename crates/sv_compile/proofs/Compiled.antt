@@ -8,6 +8,7 @@ use Rattle.sv_ast.specs.declared.files.Component.{Component}
 use Rattle.sv_ast.specs.declared.files.FileTree.{FileTree}
 use Rattle.sv_ast.specs.declared.files.FileTree.TheVariants as tree
 use Rattle.sv_ast.specs.declared.files.SourceFile.{SourceFile}
+use Rattle.sv_base.specs.declared.limits.TheConstants.{CELL_LIMIT}
 use Rattle.sv_check.specs.declared.checked.CheckedComponent.{CheckedComponent}
 use Rattle.sv_check.specs.Checked.{IsChecked, AreChecked}
 use Rattle.sv_code.specs.declared.functions.Function.{Function}
@@ -51,7 +52,7 @@ pub record IsMade (files : ℕ) (before : List Function) (made : FileCode × Lis
   pub code : IsCode (length made.1) files made.0
   pub closed : AreClosed made.1
 
-component_made : (files : List SourceFile) (c : Component) (told : CheckedComponent) (before : List Function) → length told.scopes.cells ≤ 248 → AreClosed before
+component_made : (files : List SourceFile) (c : Component) (told : CheckedComponent) (before : List Function) → length told.scopes.cells ≤ CELL_LIMIT → AreClosed before
     → IsMade (length files) before (file_code.Component (component files c told before).0, (component files c told before).1)
 unfolding component
 component_made files c told before few good =
@@ -72,7 +73,7 @@ component_made files c told before few good =
       closed = markup.closed;
     }
 
-tree_made : (files : List SourceFile) (t : FileTree) (told : CheckedComponent) (before : List Function) → length told.scopes.cells ≤ 248 → AreClosed before → IsMade (length files) before (tree_code files t told before)
+tree_made : (files : List SourceFile) (t : FileTree) (told : CheckedComponent) (before : List Function) → length told.scopes.cells ≤ CELL_LIMIT → AreClosed before → IsMade (length files) before (tree_code files t told before)
 tree_made files (tree.Component c) told before few good = component_made files c told before few good
 tree_made files (tree.Module m) told before few good = let script = of_stmts_keeps m.script.stmts before good in record { grows = script.grows; code = script.there; closed = script.closed }
 

@@ -1,7 +1,6 @@
 //! The compiler: what is left of a checked program, for those that run it or list it.
 #![tactic(auto)]
 
-mod copies;
 mod laws;
 mod program;
 mod runs;

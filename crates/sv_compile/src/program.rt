@@ -1,6 +1,7 @@
 // Whole programs.
 ghost use Rattle.std.specs.Prelude.{◌≡◌, ℕ, ◌≤◌, ◌<◌, Some, length, slice_get, All, IfOk, OnOk};
 ghost use Rattle.sv_ast.specs.declared.files.SourceFile.{SourceFile as AnySource};
+ghost use Rattle.sv_base.specs.declared.limits.TheConstants.{CELL_LIMIT};
 ghost use Rattle.sv_check.specs.declared.checked.CheckedComponent.{CheckedComponent as Told};
 ghost use Rattle.sv_check.specs.Checked.{IsChecked, AreChecked};
 ghost use Rattle.sv_code.specs.Compiled.{IsCompiled};
@@ -8,11 +9,10 @@ ghost use Rattle.sv_lines.specs.Lines.{LinesAscend};
 ghost use Rattle.sv_compile.specs.Compile as spec;
 ghost use Rattle.sv_compile.specs.Runs.{reactives};
 
-use crate::copies::{copy_lines, copy_names, copy_refs};
 use crate::runs::{prop_names, runs_of};
 use crate::unbuilt::first_unbuilt;
 use std::alloc::Global;
-use sv_ast::{Component, FileTree, SourceFile};
+use sv_ast::{Component, FileTree, LineStarts, RefList, SourceFile};
 use sv_base::NoMemory;
 use sv_check::{Checked, CheckedComponent};
 use sv_code::{
@@ -42,7 +42,7 @@ pub fn compile(alloc: Global, checked: &Checked<'_>) -> Result<Program, NoMemory
     )?;
     let unbuilt = first_unbuilt(files.as_slice())?;
     Ok(Program {
-        names: copy_names(alloc, &bundle.names)?,
+        names: bundle.names.copy()?,
         files,
         functions,
         unbuilt,
@@ -89,7 +89,7 @@ fn compile_file(
     };
     Ok(ProgramFile {
         name: source.name.share()?,
-        lines: copy_lines(alloc, source.lines.as_slice())?,
+        lines: LineStarts::copy_of(alloc, source.lines.as_slice())?,
         code,
     })
 }
@@ -102,7 +102,7 @@ fn compile_component(
     c: &Component,
     told: &CheckedComponent,
 ) -> Result<CodeComponent, NoMemory>
-    requires few { length told.now.scopes.cells ≤ 248 }
+    requires few { length told.now.scopes.cells ≤ CELL_LIMIT }
     requires below { All (λ n. n < length (reactives c.now.script.stmts)) told.now.order.items }
     ensures component { IfOk result (λ component. component ≡ (spec.component files.now c.now told.now functions.old).0) }
     ensures functions { OnOk result (functions.new ≡ (spec.component files.now c.now told.now functions.old).1) }
@@ -118,7 +118,7 @@ fn compile_component(
     let markup = fragments_of(alloc, functions, &around, c.nodes.as_slice())?;
     let props = prop_names(alloc, stmts)?;
     Ok(CodeComponent {
-        cells: copy_refs(alloc, cells)?,
+        cells: RefList::copy_of(alloc, cells)?,
         props: numbers(alloc, cells, props.as_slice())?,
         runs: runs_of(alloc, cells, stmts, &told.order)?,
         script,

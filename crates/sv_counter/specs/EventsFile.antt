@@ -4,6 +4,7 @@ use Rattle.std.specs.List.{list_all}
 use Rattle.serde_json.specs.Data.{Data, Items, string, array, object, number, unsigned, member, no_members}
 use Rattle.serde_json.specs.View.{items_of}
 use Rattle.serde_json.specs.Read.{read}
+use Rattle.sv_base.specs.declared.limits.TheConstants.{EVENT_LIMIT}
 
 -- a click on the element of this id, with the members in the order of their keys
 abbrev pub click : List ℕ → Data
@@ -26,4 +27,4 @@ pub record Clicks (bytes : List ℕ) (ids : List (List ℕ)) : Type 0 where
   pub text : IsUtf8 bytes
   pub reads : read bytes ≡ Some (clicks ids)
   pub named : are_named ids ≡ true
-  pub few : length ids ≤ 100000
+  pub few : length ids ≤ EVENT_LIMIT

@@ -81,8 +81,8 @@ fn ids_of(alloc: Global, values: &[Value]) -> Result<Option<Vec<String>>, NoMemo
 fn clicks_of(alloc: Global, value: &Value) -> Result<Option<Vec<String>>, NoMemory>
     ensures clicks { IfOk result (λ o. IfSome o (λ ids. view value.now ≡ clicks (bytes_of ids.items))) }
     ensures named { IfOk result (λ o. IfSome o (λ ids. are_named (bytes_of ids.items) ≡ true)) }
-    ensures count { IfOk result (λ o. IfSome o (λ ids. length (bytes_of ids.items) ≤ 100000)) }
-    ensures none { IfOk result (λ o. IfNone o ((ids : List (List ℕ)) → view value.now ≡ clicks ids → are_named ids ≡ true → length ids ≤ 100000 → ⊥)) }
+    ensures count { IfOk result (λ o. IfSome o (λ ids. length (bytes_of ids.items) ≤ EVENT_LIMIT)) }
+    ensures none { IfOk result (λ o. IfNone o ((ids : List (List ℕ)) → view value.now ≡ clicks ids → are_named ids ≡ true → length ids ≤ EVENT_LIMIT → ⊥)) }
 {
     let Some(values) = events_of(value) else {
         return Ok(None);

@@ -1,5 +1,6 @@
 // The turns of a run.
 ghost use Rattle.std.specs.Prelude.{◌≡◌, ◌+◌, ◌*◌, ◌≤◌, IfOk, OnOk, OnErr, length};
+ghost use Rattle.sv_base.specs.declared.limits.TheConstants.{EVENT_LIMIT};
 ghost use Rattle.sv_io.specs.Faults.{Rose};
 ghost use Rattle.sv_io.specs.Sink.{with_bytes, AppendsFront};
 ghost use Rattle.sv_counter.specs.Counter.{form_of};
@@ -49,7 +50,7 @@ pub fn play<K: Sink>(
     out: &mut K,
 ) -> Result<(), SinkError>
     requires form { IsForm (form_of counter.now) }
-    requires few { length ids.now ≤ 100000 }
+    requires few { length ids.now ≤ EVENT_LIMIT }
     ensures all { OnOk result (K.written out.new ≡ with_bytes (K.written out.old) (pages (form_of counter.now) (bytes_of ids.now))) }
     ensures front { OnErr result (AppendsFront (K.written out.old) (K.written out.new) (pages (form_of counter.now) (bytes_of ids.now))) }
     ensures later { K.faults out.old ≤ K.faults out.new }

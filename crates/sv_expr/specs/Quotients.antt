@@ -1,5 +1,5 @@
 -- Words on trees that no line of the grammar says. There are whole numbers alone, so `/` stands only as the outermost operator of the single argument of `Math.floor` or `Math.trunc`; and `==` and `!=` compare with the literal `null`.
-use Rattle.std.specs.Prelude.{Bool, true, false, not, ◌&&◌, ◌||◌, ◌==◌, List, length, codes, if◌then◌else◌}
+use Rattle.std.specs.Prelude.{Bool, true, false, not, ◌&&◌, ◌||◌, ◌==◌, List, length, if◌then◌else◌}
 use Rattle.std.specs.List.{list_any}
 use Rattle.sv_ast.specs.declared.names.Ref.{Ref}
 use Rattle.sv_ast.specs.declared.names.Ref.TheVariants.{Plain, Store}
@@ -7,6 +7,7 @@ use Rattle.sv_ast.specs.declared.operators.Op.{Op}
 use Rattle.sv_ast.specs.declared.operators.Op.TheVariants as op
 use Rattle.sv_ast.specs.declared.script_tree.Expr.{Expr}
 use Rattle.sv_ast.specs.declared.script_tree.ExprKind.{ExprKind-F, out-ExprKind}
+use Rattle.sv_base.specs.declared.built_in.TheConstants.{MATH, FLOOR, TRUNC}
 use Rattle.sv_expr.specs.Layer.{Layer}
 use Rattle.sv_lex.specs.Reader.{Input, is_named}
 use Rattle.sv_expr.specs.declared.quotients.Left.{Left}
@@ -63,7 +64,7 @@ fits left op right = not (is_quotient_left left) && not (is_quotient right) && (
 -- ---- `Math.floor` and `Math.trunc`
 
 abbrev pub is_math_ref : Ref → Input → Bool
-is_math_ref (Plain name) i = is_named (codes "Math") name i
+is_math_ref (Plain name) i = is_named MATH.now name i
 is_math_ref (Store name) i = false
 
 abbrev pub is_math_layer : Layer → Input → Bool
@@ -75,7 +76,7 @@ abbrev pub is_math : Expr → Input → Bool
 is_math x i = is_math_layer (out-ExprKind x.kind) i
 
 abbrev pub rounds_layer : Layer → Input → Bool
-rounds_layer (ExprKind-F.Member of word) i = is_math of i && (is_named (codes "floor") word i || is_named (codes "trunc") word i)
+rounds_layer (ExprKind-F.Member of word) i = is_math of i && (is_named FLOOR.now word i || is_named TRUNC.now word i)
 rounds_layer _ i = false
 
 -- the function is one of the two

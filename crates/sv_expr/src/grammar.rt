@@ -10,17 +10,12 @@ use crate::below::Enclosed;
 use crate::form::Form;
 use crate::leaves::{constant, number, quoted};
 use crate::lists::listed;
-use std::alloc::{AllocError, Global};
+use std::alloc::Global;
 use std::marker::PhantomData;
 use sv_ast::{Entry, Expr, ExprKind, Exprs, Kind, ParseError, Stmts};
+use sv_base::NoMemory;
 use sv_lex::{Lexeme, Run, Tokens};
 use sv_list::Items;
-
-/// How many constructs may enclose one another.
-pub const NEST_LIMIT: usize = 32;
-
-/// How many links a chain may have.
-pub const LINK_LIMIT: usize = 1000;
 
 /// The rules of expressions. Each reads from `tokens` what its line of the grammar says.
 #[derive(Drop)]
@@ -155,7 +150,7 @@ fn entry_of(is_spread: bool, value: Expr) -> Entry
 }
 
 // Puts a literal run of a template behind its parts, if it is not empty.
-fn push_run(alloc: Global, parts: &mut Exprs, run: Run) -> Result<(), AllocError>
+fn push_run(alloc: Global, parts: &mut Exprs, run: Run) -> Result<(), NoMemory>
     ensures { OnOk result (parts.new ≡ with_run run parts.old) }
 {
     let Run { text, span } = run;

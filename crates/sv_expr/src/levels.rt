@@ -8,13 +8,13 @@ ghost use Rattle.sv_expr.specs.Nodes as nodes;
 
 use crate::below::Enclosed;
 use crate::form::Form;
-use crate::grammar::{Grammar, LINK_LIMIT};
+use crate::grammar::Grammar;
 use crate::leaves::target;
 use crate::operators::operator_in;
 use crate::quotients::{Left, fits, left_by, left_of};
-use std::alloc::{AllocError, Global};
+use std::alloc::Global;
 use sv_ast::{Expr, ExprKind, Kind, Link, Links, ParseError, Stmts};
-use sv_base::Span;
+use sv_base::{LINK_LIMIT, NoMemory, Span};
 use sv_lex::{Lexeme, Tokens, same_lexeme};
 use sv_list::Items;
 
@@ -181,7 +181,7 @@ impl<
 
 // An operand and the operators of one level behind it; without any it is itself.
 #[tactic(auto, unfolding(crate::specs::Nodes::chain))]
-fn chain(alloc: Global, span: Span, first: Expr, found: Links) -> Result<Expr, AllocError>
+fn chain(alloc: Global, span: Span, first: Expr, found: Links) -> Result<Expr, NoMemory>
     ensures { IfOk result (λ made. made ≡ nodes.chain span first found) }
 {
     if found.is_empty() {

@@ -20,7 +20,7 @@ mod whole;
 
 pub use below::Enclosed;
 pub use form::Form;
-pub use grammar::{Grammar, LINK_LIMIT, NEST_LIMIT};
+pub use grammar::Grammar;
 pub use laws::{grammar_is_read, read_is_in_the_grammar, refused_for_cause};
 pub use leaves::target;
 pub use lists::{listed, parameters};

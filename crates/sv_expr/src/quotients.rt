@@ -5,6 +5,7 @@ ghost use Rattle.sv_expr.specs.Quotients as spec;
 
 use crate::form::Form;
 use sv_ast::{Expr, ExprKind, Link, Op, Ref};
+use sv_base::built_in::{FLOOR, MATH, TRUNC};
 use sv_lex::Tokens;
 
 /// What stands to the left of an operator.
@@ -95,7 +96,7 @@ fn is_math(of: &Expr, tokens: &Tokens<'_>) -> bool
     ensures { result ≡ spec.is_math of.now tokens.now }
 {
     match of.kind.get() {
-        ExprKind::Read(Ref::Plain(name)) => tokens.is_named(*name, "Math"),
+        ExprKind::Read(Ref::Plain(name)) => tokens.is_named(*name, MATH),
         _ => false,
     }
 }
@@ -106,8 +107,7 @@ pub fn rounds(of: &Expr, tokens: &Tokens<'_>) -> bool
 {
     match of.kind.get() {
         ExprKind::Member { of, word } => {
-            is_math(of, tokens)
-                && (tokens.is_named(*word, "floor") || tokens.is_named(*word, "trunc"))
+            is_math(of, tokens) && (tokens.is_named(*word, FLOOR) || tokens.is_named(*word, TRUNC))
         }
         _ => false,
     }

@@ -7,13 +7,14 @@ ghost use Rattle.sv_lex.specs.Reader.{Reads};
 
 use crate::below::Enclosed;
 use crate::form::Form;
-use crate::grammar::{Grammar, LINK_LIMIT};
+use crate::grammar::Grammar;
 use crate::leaves::target;
 use crate::lists::listed;
 use crate::operators::{begins_suffix, bump_behind};
 use crate::quotients::{argument, is_quotient, is_single, rounds};
 use std::alloc::Global;
 use sv_ast::{Expr, ExprKind, Kind, ParseError, Stmts};
+use sv_base::LINK_LIMIT;
 use sv_lex::{Lexeme, Tokens};
 
 impl<

@@ -204,13 +204,10 @@ fn add_let(lets: &mut LetNames, of: &TagAttr) -> Result<(), NoMemory>
         return Ok(());
     }
     match &of.value {
-        AttrValue::Bare => {
-            lets.push(LetName {
-                prop: of.name,
-                local: of.name,
-            })?;
-            Ok(())
-        }
+        AttrValue::Bare => lets.push(LetName {
+            prop: of.name,
+            local: of.name,
+        }),
         AttrValue::Parts(parts) => add_let_parts(lets, of.name, parts.as_slice()),
     }
 }

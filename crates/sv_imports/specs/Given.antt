@@ -1,9 +1,6 @@
--- What files, `svelte` and `svelte/store` give to those that import from them between braces (ECMA-262, 16.2.3; Svelte 4 docs,
--- 'svelte' and 'svelte/store').
-use Rattle.std.specs.Prelude.{ℕ, Bool, true, false, List, [], ◌∷◌, map, codes, slice_get}
-use Rattle.std.specs.List.{list_any, flat_map}
-use Rattle.std.specs.Option.{option_map_or}
-use Rattle.std.specs.Str.{bytes_eq}
+-- What files give to those that import from them between braces (ECMA-262, 16.2.3).
+use Rattle.std.specs.Prelude.{true, List, [], ◌∷◌, map}
+use Rattle.std.specs.List.{flat_map}
 use Rattle.sv_ast.specs.declared.files.FileTree.{FileTree}
 use Rattle.sv_ast.specs.declared.files.FileTree.TheVariants as tree
 use Rattle.sv_ast.specs.declared.files.SourceFile.{SourceFile}
@@ -11,28 +8,9 @@ use Rattle.sv_ast.specs.declared.names.Ref.{Ref}
 use Rattle.sv_ast.specs.declared.script_tree.Decl.{Decl, out-Decl}
 use Rattle.sv_ast.specs.declared.script_tree.Stmt.{Stmt}
 use Rattle.sv_ast.specs.declared.script_tree.StmtKind.{StmtKind-F, out-StmtKind}
-use Rattle.sv_base.specs.declared.names.Name.{Name}
 use Rattle.sv_names.specs.Distinct.{firsts}
 use Rattle.sv_names.specs.Uses.{named}
 use Rattle.sv_imports.specs.Imports.{StmtLayer}
-
--- ---- what the framework gives
-
--- what `svelte` gives: the functions of the life of a component
-abbrev pub life_functions : List (List ℕ)
-life_functions =
-    codes "onMount" ∷ codes "beforeUpdate" ∷ codes "afterUpdate" ∷ codes "onDestroy" ∷ codes "setContext" ∷ codes "getContext" ∷
-    codes "createEventDispatcher" ∷ []
-
--- what `svelte/store` gives
-abbrev pub store_functions : List (List ℕ)
-store_functions = codes "writable" ∷ []
-
--- whether a name of a table has one of some texts
-abbrev pub is_among : List (List ℕ) → List (List ℕ) → Name → Bool
-is_among texts table name = option_map_or (λ text. list_any (bytes_eq text) texts) (slice_get table name.0) false
-
--- ---- what a module gives
 
 abbrev pub decl_names : List Decl → List Ref
 decl_names decls = map (λ d. named (out-Decl d).name) decls

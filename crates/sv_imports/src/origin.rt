@@ -4,6 +4,7 @@ ghost use Rattle.sv_imports.specs.Unknown as spec;
 
 use crate::files::file_named;
 use sv_ast::SourceFile;
+use sv_base::built_in::{LIFE_MODULE, STORE_MODULE};
 
 /// What an import takes its names from.
 #[derive(Clone, Copy)]
@@ -22,10 +23,10 @@ pub(crate) enum Origin {
 pub(crate) fn origin_of(files: &[SourceFile], from: &str) -> Origin
     ensures { result ≡ spec.origin_of files.now from.now }
 {
-    if from == "svelte" {
+    if from == LIFE_MODULE {
         return Origin::Life;
     }
-    if from == "svelte/store" {
+    if from == STORE_MODULE {
         return Origin::Stores;
     }
     match file_named(files, from) {

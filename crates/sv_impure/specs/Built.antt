@@ -1,10 +1,10 @@
--- `String` and `Boolean`, which may be called like pure functions in a file that doesn't declare them anew (ECMA-262, 22.1.1 and 20.3.1).
-use Rattle.std.specs.Prelude.{ℕ, List, [], ◌∷◌, ◌++◌, ◌==◌, length, codes, if◌then◌else◌}
+-- `String` and `Boolean` in a file that doesn't declare them anew.
+use Rattle.std.specs.Prelude.{ℕ, List, [], ◌∷◌, ◌++◌, ◌==◌, length, if◌then◌else◌}
 use Rattle.sv_ast.specs.declared.names.Ref.{Ref}
 use Rattle.sv_ast.specs.declared.names.Ref.TheVariants.{Plain}
-use Rattle.sv_base.specs.Names.{number_of}
+use Rattle.sv_base.specs.Names.{Table, number_of}
+use Rattle.sv_base.specs.declared.built_in.TheConstants.{STRING, BOOLEAN}
 use Rattle.sv_names.specs.Distinct.{has}
-use Rattle.sv_purity.specs.Calls.{Table}
 
 -- the name with a number
 abbrev pub numbered : ℕ → Ref
@@ -19,5 +19,5 @@ abbrev pub undeclared : Table → List Ref → List ℕ → List Ref
 undeclared table declared text = if number_of text table == length table then [] else unless_declared declared (numbered (number_of text table))
 
 -- of `String` and `Boolean` those that a file doesn't declare
-abbrev pub built_in : Table → List Ref → List Ref
-built_in table declared = undeclared table declared (codes "String") ++ undeclared table declared (codes "Boolean")
+abbrev pub free_conversions : Table → List Ref → List Ref
+free_conversions table declared = undeclared table declared STRING.now ++ undeclared table declared BOOLEAN.now

@@ -1,5 +1,5 @@
 -- Expressions of markup that aren't pure where they stand: those of attributes and directives, of the heads of blocks, of keys and of
--- text. Names of rows and slot props hide pure functions of the same names (Svelte 4 docs, '{#each}' and '<slot key={value}>').
+-- text. Names of rows and slot props hide what is known by the same names (Svelte 4 docs, '{#each}' and '<slot key={value}>').
 use Rattle.std.specs.Prelude.{Bool, false, List, Option, None, Some, map, option_map, if◌then◌else◌}
 use Rattle.std.specs.List.{flat_map}
 use Rattle.std.specs.Option.{option_to_list}
@@ -14,11 +14,12 @@ use Rattle.sv_ast.specs.declared.markup_tree.TagAttr.{TagAttr}
 use Rattle.sv_ast.specs.declared.names.Named.{Named}
 use Rattle.sv_ast.specs.declared.names.Ref.{Ref}
 use Rattle.sv_ast.specs.declared.script_tree.Expr.{Expr}
+use Rattle.sv_base.specs.Names.{Table}
 use Rattle.sv_base.specs.declared.span.Span.{Span}
 use Rattle.sv_names.specs.Distinct.{firsts}
-use Rattle.sv_purity.specs.Calls.{Table}
+use Rattle.sv_purity.specs.declared.scope.Known.{Known}
 use Rattle.sv_purity.specs.First.{first}
-use Rattle.sv_purity.specs.Pure.{Places, nowhere, both, each, without, impurities}
+use Rattle.sv_purity.specs.Pure.{Places, nowhere, both, each, hiding, impurities}
 use Rattle.sv_scopes.specs.Attributes.{is_slotted, lets}
 use Rattle.sv_scopes.specs.Parts.{names_of}
 use Rattle.sv_scopes.specs.Rows.{row_names}
@@ -37,18 +38,18 @@ abbrev pub optional : Option Places → Places
 optional None = nowhere
 optional (Some places) = places
 
--- the first place of an expression that isn't pure, where some names are those of pure functions
+-- the first place of an expression that isn't pure, where some names are known
 abbrev pub shown : Expr → Places
-shown e table pure = option_to_list (first (impurities table e pure))
+shown e table known = option_to_list (first (impurities table e known))
 
 -- an expression that may be absent
 abbrev pub given : Option Expr → Places
 given None = nowhere
 given (Some e) = shown e
 
--- what is found in a scope of some names, which hide pure functions
+-- what is found in a scope of some names, which hide what is known
 unfoldable pub within : List Ref → Places → Places
-within names places table pure = places table (without names pure)
+within names places table known = places table (hiding names known)
 
 -- ---- attributes
 
@@ -76,13 +77,13 @@ let_names attrs = firsts (names_of (lets attrs))
 unfoldable pub tag : List TagAttr → Places → Places
 tag attrs content = if is_slotted attrs then within (let_names attrs) (both (attributes attrs) content) else both (attributes attrs) content
 
--- a node in the content of a component's tag, in whose default content the pure functions are others than around
-abbrev pub node_in : List Ref → List Ref → Node → Table → List Span
-node_in pure inside n table = if n.slotted then n.places table pure else n.places table inside
+-- a node in the content of a component's tag, in whose default content other names are known than around
+abbrev pub node_in : Known → Known → Node → Table → List Span
+node_in known inside n table = if n.slotted then n.places table known else n.places table inside
 
 -- the content of a component's tag of some `let:` names, which are of its default content alone
 unfoldable pub content : List Ref → List Node → Places
-content names list table pure = flat_map (λ n. node_in pure (without names pure) n table) list
+content names list table known = flat_map (λ n. node_in known (hiding names known) n table) list
 
 -- a component: where its tag has a `slot` attribute, the names of its default content are those of the whole
 unfoldable pub component : List TagAttr → List Node → Places
@@ -123,6 +124,6 @@ node = fold-Markup Node Places markup branch_of
 abbrev pub branch_places : Branch → Places
 branch_places = fold-Branch Node Places markup branch_of
 
--- at the first impurity of each expression of a component's markup, where some names of its top level are those of pure functions
-abbrev pub impure_markup : Table → List Ref → Component → List Span
-impure_markup table pure c = nodes (map node c.nodes) table pure
+-- at the first impurity of each expression of a component's markup, where some names are known at its top level
+abbrev pub impure_markup : Table → Known → Component → List Span
+impure_markup table known c = nodes (map node c.nodes) table known

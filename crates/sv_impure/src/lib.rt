@@ -5,5 +5,5 @@ mod attributes;
 mod built;
 mod walk;
 
-pub use built::add_built_in;
+pub use built::free_conversions;
 pub use walk::impure_markup;

@@ -1,7 +1,7 @@
 // The walk through the expressions of markup.
 ghost use Rattle.std.specs.Prelude.{◌≡◌, ◌++◌, map, IfOk, OnOk};
 ghost use Rattle.std.specs.List.{flat_map};
-ghost use Rattle.sv_purity.specs.Pure.{each, without};
+ghost use Rattle.sv_purity.specs.Pure.{each, hiding as spec_hiding};
 ghost use Rattle.sv_purity.specs.Scopes.{visible};
 ghost use Rattle.sv_impure.specs.Impure as spec;
 
@@ -11,21 +11,20 @@ use sv_ast::{Branch, Component, Expr, Markup, Named, TagAttr};
 use sv_base::{Names, NoMemory, Span};
 use sv_list::Items;
 use sv_names::Distinct;
-use sv_purity::{Scope, first_impurity};
+use sv_purity::{Known, Scope, first_impurity};
 use sv_scopes::{is_slotted, let_names, row_names};
 
 /// The places of the expressions in a component's markup that aren't pure, each where its first impurity is, in the order of the text:
 /// those of attributes and directives, `on:` among them, of the heads of blocks, of keys and of text. `names` are those with which the
-/// component was read, and `pure` are the names of its top level that stand for pure functions. The names of a row hide them in its key
-/// and its content, and `let:` names in the content that they are of (Svelte 4 docs, '{#each}' and '`<slot key={value}>`'). `NoMemory`
-/// comes at want of memory alone.
+/// component was read, and `known` is what is known at its top level. The names of a row hide it in its key and its content, and `let:`
+/// names in the content that they are of (Svelte 4 docs, '{#each}' and '`<slot key={value}>`'). `NoMemory` comes at want of memory alone.
 pub fn impure_markup(
     alloc: Global,
     names: &Names,
-    pure: &Distinct,
+    known: &Known,
     c: &Component,
 ) -> Result<Items<Span>, NoMemory>
-    ensures { IfOk result (λ places. places ≡ spec.impure_markup names.now pure.now c.now) }
+    ensures { IfOk result (λ places. places ≡ spec.impure_markup names.now known.now c.now) }
 {
     let mut places = Items::new(alloc);
     find_nodes(
@@ -33,7 +32,7 @@ pub fn impure_markup(
         &mut places,
         alloc,
         names,
-        &Scope::Top(pure),
+        &Scope::Top(known),
     )?;
     Ok(places)
 }
@@ -48,10 +47,7 @@ pub(crate) fn find_shown(
     ensures { OnOk result (places.new ≡ places.old ++ spec.shown e.now names.now (visible scope.now)) }
 {
     match first_impurity(names, e, scope) {
-        Some(at) => {
-            places.push(at)?;
-            Ok(())
-        }
+        Some(at) => places.push(at),
         None => Ok(()),
     }
 }
@@ -70,9 +66,9 @@ fn find_given(
     }
 }
 
-// A scope in another, in which some names hide pure functions.
+// A scope in another, in which some names hide what is known.
 fn hiding<'a>(outer: &'a Scope<'a>, names: &'a Distinct) -> Scope<'a>
-    ensures { visible result ≡ without names.now (visible outer.now) }
+    ensures { visible result ≡ spec_hiding names.now (visible outer.now) }
 {
     Scope::Hiding { outer, names }
 }

@@ -96,7 +96,7 @@ impl Shelf for MemShelf {
 }
 
 /// Output in memory, which is always told. One write takes `take` bytes, or the whole piece where that is shorter.
-/// The calls that `fail` lists fail, counted from 1.
+/// The calls with a piece that isn't empty are counted from 1, and those that `fail` lists fail.
 #[derive(Drop)]
 pub struct MemSink {
     written: Vec<u8>,
@@ -149,17 +149,22 @@ impl Sink for MemSink {
     ghost faults = { λ s. listed_up_to s.fail s.calls };
 
     fn write(&mut self, bytes: &[u8]) -> Result<usize, SinkError>
+        ensures same { bytes.now ≡ [] → self.new ≡ self.old }
         ensures took { IfOk result (λ n. n ≡ min self.old.take (length bytes.now)) }
-        ensures wrote { IfOk result (λ n. self.new ≡ record self.old { written = self.old.written ++ take n bytes.now; calls = next_call self.old.calls }) }
+        ensures wrote { IfOk result (λ n. 0 < n → self.new ≡ record self.old { written = self.old.written ++ take n bytes.now; calls = next_call self.old.calls }) }
         ensures kept { OnErr result (self.new ≡ record self.old { calls = next_call self.old.calls }) }
-        ensures fails { (result ≡ Err SinkError.Failed) ↔ (is_listed self.old.fail (next_call self.old.calls) ≡ true) }
+        ensures fails { (result ≡ Err SinkError.Failed) ↔ ((0 < length bytes.now) × (is_listed self.old.fail (next_call self.old.calls) ≡ true)) }
         ensures appended { IfOk result (λ n. Some self.new.written ≡ with_bytes (Some self.old.written) (take n bytes.now)) }
         ensures some { IfOk result (λ n. 0 < length bytes.now → 0 < n) }
+        ensures empty { bytes.now ≡ [] → result ≡ Ok 0 }
         ensures bound { IfOk result (λ n. n ≤ length bytes.now) }
         ensures refused { OnErr result (Some self.new.written ≡ Some self.old.written) }
         ensures later { listed_up_to self.old.fail self.old.calls ≤ listed_up_to self.new.fail self.new.calls }
         ensures failed { result ≡ Err SinkError.Failed → Rose (listed_up_to self.old.fail self.old.calls) (listed_up_to self.new.fail self.new.calls) }
     {
+        if bytes.is_empty() {
+            return Ok(0);
+        }
         self.calls = self.calls.saturating_add(1);
         if lists(&self.fail, self.calls) {
             return Err(SinkError::Failed);

@@ -1,5 +1,5 @@
 // Where bytes are written.
-ghost use Rattle.std.specs.Prelude.{◌≡◌, ◌<◌, ◌≤◌, ℕ, List, Option, length, take, IfOk, OnOk, OnErr};
+ghost use Rattle.std.specs.Prelude.{◌≡◌, ◌<◌, ◌≤◌, ℕ, List, [], Option, length, take, IfOk, OnOk, OnErr};
 ghost use Rattle.sv_io.specs.Faults.{Rose};
 ghost use Rattle.sv_io.specs.Sink.{with_bytes, AppendsFront};
 
@@ -34,11 +34,12 @@ pub trait Sink {
     /// How many writes have failed so far.
     ghost faults: { Self → ℕ };
 
-    /// Appends a front of the piece and answers how long it is: at least one byte of a piece that has one.
-    /// A refusal appends nothing, and a write fails only where the count of faults rises.
+    /// Appends a front of the piece and answers how long it is: at least one byte of a piece that has one, and 0 for an
+    /// empty piece, which is never refused. A refusal appends nothing, and a write fails only where the count of faults rises.
     fn write(&mut self, bytes: &[u8]) -> Result<usize, SinkError>
         ensures appended { IfOk result (λ n. written self.new ≡ with_bytes (written self.old) (take n bytes.now)) }
         ensures some { IfOk result (λ n. 0 < length bytes.now → 0 < n) }
+        ensures empty { bytes.now ≡ [] → result ≡ Ok 0 }
         ensures bound { IfOk result (λ n. n ≤ length bytes.now) }
         ensures refused { OnErr result (written self.new ≡ written self.old) }
         ensures later { faults self.old ≤ faults self.new }

@@ -95,8 +95,11 @@ impl<R: Print + Drop> Sink for StdSink<R> {
     ghost faults = { λ s. s.faults };
 
     fn write(&mut self, bytes: &[u8]) -> Result<usize, SinkError> {
+        if bytes.is_empty() {
+            return Ok(0);
+        }
         match io::writer(&self.rt).write(bytes) {
-            Ok(count) if count > 0 || bytes.is_empty() => Ok(count),
+            Ok(count) if count > 0 => Ok(count),
             _ => {
                 self.faults = self.faults.saturating_add(1);
                 Err(SinkError::Failed)

@@ -4,7 +4,7 @@ use Rattle.std.specs.List.{slice_get}
 use Rattle.std.proofs.lemmas.List.{append-nil, take_all, take-append-drop}
 use Rattle.sv_value.specs.declared.key.Key.{Key}
 use Rattle.sv_keyed.specs.Keys.{times, IsDistinct}
-use Rattle.sv_keyed.specs.Steps.{without, put, key_at, apply, apply_all, IsFair, AreFair}
+use Rattle.sv_keyed.specs.Steps.{without, put, key_at, apply, apply_all, IsFair, AreFair, IsSpot, HasSpot, HaveSpots}
 use Rattle.sv_keyed.specs.Walk.{Dropping, Placing}
 use Rattle.sv_keyed.specs.declared.step.KeyStep.{KeyStep}
 use Rattle.sv_keyed.specs.declared.step.KeyStep.TheVariants.{Drop, Make, Shift}
@@ -18,8 +18,12 @@ fair-snoc : (old new : List Key) (steps : List KeyStep) (s : KeyStep) → AreFai
 fair-snoc old new [] s h g = (g, tt)
 fair-snoc old new (r ∷ steps) s h g = (h.0, fair-snoc old new steps s h.1 g)
 
+spots-snoc : (old new : List Key) (steps : List KeyStep) (s : KeyStep) (xs : List Key) → HaveSpots old new steps xs → HasSpot new (apply_all old new steps xs) s → HaveSpots old new (steps ++ s ∷ []) xs
+spots-snoc old new [] s xs h g = (g, tt)
+spots-snoc old new (r ∷ steps) s xs h g = (h.0, spots-snoc old new steps s (apply old new r xs) h.1 g)
+
 pub dropping-start : (old new : List Key) → Dropping old new [] [] 0
-dropping-start old new = record { keys = refl; within = λ k. omega arith; left = λ k on. absurd (omega arith); known = λ k on. omega arith; fair = tt; idle = λ e. (refl, refl) }
+dropping-start old new = record { keys = refl; within = λ k. omega arith; left = λ k on. absurd (omega arith); known = λ k on. omega arith; fair = tt; spots = tt; idle = λ e. (refl, refl) }
 
 module _ (old new : List Key) (steps : List KeyStep) (front : List Key) (i : ℕ) (key : Key) (here : slice_get old i ≡ Some key) (h : Dropping old new steps front i) where
   cut : drop i old ≡ key ∷ drop (i + 1) old
@@ -35,6 +39,7 @@ module _ (old new : List Key) (steps : List KeyStep) (front : List Key) (i : ℕ
         left = λ k on. elim (times-one k key) [ inl p ↦ subst (λ z. 0 < times z new) (sym p.0) in_new | inr p ↦ h.left k (omega (arith, times-append k front (key ∷ []))) ];
         known = λ k on. same k ∙ h.known k on;
         fair = h.fair;
+        spots = h.spots;
         idle = λ e. ((h.idle e).0, (rw (take_at old i key here) (ap (λ z. z ++ key ∷ []) (h.idle e).1)));
       }
 
@@ -50,6 +55,7 @@ module _ (old new : List Key) (steps : List KeyStep) (front : List Key) (i : ℕ
           | inr p ↦ omega (arith, h.known k on, ap (times k) cut, times-cons k key (drop (i + 1) old))
         ];
         fair = fair-snoc old new steps (Drop i) h.fair (key, here, gone);
+        spots = spots-snoc old new steps (Drop i) old h.spots tt;
         idle = λ e. absurd (omega (arith, h.within key, ap (times key) cut, times-cons key key (drop (i + 1) old), times-self key, ap (times key) e));
       }
 
@@ -65,6 +71,7 @@ placing-start old new steps front distinct h =
       left = λ k on. rw all (h.left k on);
       known = λ k on. omega (arith, h.known k (rw all at on), ap (times k) end);
       fair = h.fair;
+      spots = h.spots;
       idle = λ e. ((h.idle e).0, (h.idle e).1 ∙ all' ∙ e ∙ sym all);
     }
 
@@ -134,6 +141,7 @@ module _ (old new : List Key) (steps : List KeyStep) (front : List Key) (j : ℕ
         left = less-left front' counts;
         known = less-known front' counts;
         fair = h.fair;
+        spots = h.spots;
         idle = λ e. ((h.idle e).0, snoc-same front' (take j new) key (sym is ∙ (h.idle e).1 ∙ head-more));
       }
 
@@ -154,6 +162,15 @@ module _ (old new : List Key) (steps : List KeyStep) (front : List Key) (j : ℕ
           let cut_next = drop_at new (j + 1) next.0 next.1 in
           rw (place.0, next.1, tail-cut, cut_next) (put-before key next.0 rest (drop (j + 1 + 1) new) (absent next.0 cut_next))
 
+  -- what the new list has behind the key stands there
+  spot-here : (rest : List Key) (before : Option ℕ) → IsBehind j new before → IsSpot new (rest ++ drop (j + 1) new) before
+  spot-here rest None behind = tt
+  spot-here rest (Some b) behind =
+      let place = behind.inside b refl in
+      let next = get_some new (j + 1) place.1 in
+      let cut_next = drop_at new (j + 1) next.0 next.1 in
+      (next.0, ap (slice_get new) place.0 ∙ next.1, omega (arith, times-append next.0 rest (drop (j + 1) new), ap (times next.0) cut_next, times-cons next.0 next.0 (drop (j + 1 + 1) new), times-self next.0))
+
   pub placing-inside : (front' : List Key) (before : Option ℕ) → IsBehind j new before → front' ≡ without key front → 0 < times key front →
       ((xs : List Key) → front ≡ xs ++ key ∷ [] → ⊥) → Placing old new (steps ++ Shift j before ∷ []) front' j
   placing-inside front' before behind is on_front never =
@@ -165,6 +182,7 @@ module _ (old new : List Key) (steps : List KeyStep) (front : List Key) (j : ℕ
         left = less-left front' counts;
         known = less-known front' counts;
         fair = fair-snoc old new steps (Shift j before) h.fair (key, here, omega (arith, on_front, times-front));
+        spots = spots-snoc old new steps (Shift j before) old h.spots (rw (here, h.keys, gone) (spot-here front' before behind));
         idle = λ e. absurd (never (take j new) ((h.idle e).1 ∙ head-more));
       }
 
@@ -180,6 +198,7 @@ module _ (old new : List Key) (steps : List KeyStep) (front : List Key) (j : ℕ
         left = λ k on. omega (arith, h.left k on, grown k, other k on);
         known = λ k on. h.known k (omega (arith, grown k));
         fair = fair-snoc old new steps (Make j before) h.fair (key, here, none);
+        spots = spots-snoc old new steps (Make j before) old h.spots (rw h.keys (spot-here front before behind));
         idle = λ e. absurd (omega (arith, none, times-front, ap (times key) ((h.idle e).1 ∙ head-more), times-append key (take j new) (key ∷ []), times-self key));
       }
 

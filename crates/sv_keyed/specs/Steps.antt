@@ -60,6 +60,22 @@ abbrev pub AreFair : List Key → List Key → List KeyStep → Type 0
 AreFair old new [] = Unit {0}
 AreFair old new (s ∷ steps) = IsFair old new s × AreFair old new steps
 
+-- a row is put at the end of a list, or before a row whose key stands there
+abbrev pub IsSpot : List Key → List Key → Option ℕ → Type 0
+IsSpot new xs None = Unit {0}
+IsSpot new xs (Some at) = Names new at (λ k. 0 < times k xs)
+
+-- the same of the row that a step puts somewhere: a row that is moved is put before another one
+abbrev pub HasSpot : List Key → List Key → KeyStep → Type 0
+HasSpot new xs (Drop at) = Unit {0}
+HasSpot new xs (Make at before) = IsSpot new xs before
+HasSpot new xs (Shift at before) = IsSpot new (drop_key (slice_get new at) xs) before
+
+-- the same of steps in order, each on the keys that those before it leave
+abbrev pub HaveSpots : List Key → List Key → List KeyStep → List Key → Type 0
+HaveSpots old new [] xs = Unit {0}
+HaveSpots old new (s ∷ steps) xs = HasSpot new xs s × HaveSpots old new steps (apply old new s xs)
+
 -- the steps lead from the old keys to the new ones
 pub record Leads (old new : List Key) (steps : List KeyStep) : Type 0 where
   pub keys : apply_all old new steps old ≡ new

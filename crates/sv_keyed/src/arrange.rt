@@ -1,7 +1,7 @@
 // The walk that finds the steps.
 ghost use Rattle.std.specs.Prelude.{◌≡◌, ◌+◌, ◌-◌, ◌^◌, ◌<◌, ◌≤◌, [], IfOk, OnOk, None, Some, Err, length, slice_index_or, true, false};
 ghost use Rattle.sv_keyed.specs.Keys.{IsDistinct, first_repeat};
-ghost use Rattle.sv_keyed.specs.Steps.{Leads};
+ghost use Rattle.sv_keyed.specs.Steps.{Leads, HaveSpots};
 ghost use Rattle.sv_keyed.specs.Marks.{left, AreMarked};
 ghost use Rattle.sv_keyed.specs.Walk.{Dropping, Placing};
 
@@ -18,10 +18,12 @@ const PLACE_LIMIT: usize = u32::MAX as usize;
 /// on, each row that does not stand in its place is made or moved.
 ///
 /// Where no key stands twice in `old`, the steps applied in order to `old` give `new`, a key in both lists is neither dropped
-/// nor made, and only such a key is moved. Equal lists give no step. `Duplicate` comes exactly where a key stands twice in
+/// nor made, and only such a key is moved; and each row that is made or moved goes to the end, or before another row whose key
+/// stands in the list then. Equal lists give no step. `Duplicate` comes exactly where a key stands twice in
 /// `new`.
 pub fn moves(alloc: Global, old: &[Key], new: &[Key]) -> Result<Vec<KeyStep>, KeyRefusal>
     ensures steps { IfOk result (λ steps. IsDistinct old.now → Leads old.now new.now steps.items) }
+    ensures spots { IfOk result (λ steps. IsDistinct old.now → HaveSpots old.now new.now steps.items old.now) }
     ensures idle { IfOk result (λ steps. old.now ≡ new.now → steps.items ≡ []) }
     ensures distinct { OnOk result (first_repeat new.now ≡ None) }
     ensures duplicate { (k : Key) → result ≡ Err (KeyRefusal.Duplicate k) → first_repeat new.now ≡ Some k }

@@ -5,6 +5,7 @@ use Rattle.std.specs.List.{list_any, position_or_len, IsDistinct, AllByRecursion
 use Rattle.std.specs.Cmp.Lexicographic.{bytes_decides}
 use Rattle.std.proofs.lemmas.List.Folds.{list_any-append}
 use Rattle.sv_base.specs.Names.{number_of, with_text, IsTable}
+use Rattle.sv_base.specs.declared.limits.TheConstants.{NAME_LIMIT}
 
 pub number_of-le : (t : List ℕ) (xs : List (List ℕ)) → number_of t xs ≤ length xs
 unfolding number_of
@@ -72,7 +73,7 @@ IsDistinct-push (x ∷ xs) t h e = by (bytes_eq t x) refl e (IsDistinct-push xs 
 
 -- a text that neither has may be added
 pub IsTable-with_text : (t : List ℕ) (known added new : List (List ℕ)) → IsTable (known ++ added) → number_of t known ≡ length known
-    → length known + length added ≢ 4294967295 → new ≡ with_text t added → IsTable (known ++ new)
+    → length known + length added ≢ NAME_LIMIT → new ≡ with_text t added → IsTable (known ++ new)
 unfolding with_text
 IsTable-with_text t known added new table h room e = subst (λ z. IsTable (known ++ z)) (sym e) (by (list_any (bytes_eq t) added) refl)
   where

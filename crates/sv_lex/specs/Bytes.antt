@@ -1,5 +1,6 @@
 -- The steps of rules that go byte by byte, as those of markup do. They stand beside the steps over tokens.
 use Rattle.std.specs.Prelude.{◌≡◌, ◌<◌, ◌+◌, ◌++◌, ℕ, List, length, Result, Ok, Err}
+use Rattle.sv_base.specs.declared.limits.TheConstants.{TEXT_LIMIT}
 use Rattle.sv_base.specs.declared.names.Name.{Name as NameNumber}
 use Rattle.sv_base.specs.Names.{IsTable}
 use Rattle.sv_ast.specs.declared.refusals.Kind.{Kind}
@@ -43,7 +44,7 @@ source_of s = record { text = s.text.now; at = s.at; file = s.file; known = s.kn
 
 -- places that fit, and names that are a table
 pub record IsSound (s : Inside) : Type 0 where
-  pub places : s.at + length s.text.now < 4294967295
+  pub places : s.at + length s.text.now < TEXT_LIMIT
   pub names : IsTable (s.known.now ++ s.added)
 
 -- what a function that ends a run of tokens ensures: the outcome of a step that gives nothing but what is left, unless memory fails

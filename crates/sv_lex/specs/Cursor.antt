@@ -1,6 +1,7 @@
 -- What a cursor shows, and what it keeps ready.
 use Rattle.std.specs.Prelude.{◌≡◌, ◌<◌, ◌≤◌, ◌+◌, ◌++◌, length}
 use Rattle.sv_base.specs.Names.{IsTable}
+use Rattle.sv_base.specs.declared.limits.TheConstants.{TEXT_LIMIT}
 use Rattle.sv_lex.specs.declared.cursor.Tokens.TheInside.{Inside}
 use Rattle.sv_lex.specs.Look.{skip}
 use Rattle.sv_lex.specs.Reader.{Input}
@@ -15,5 +16,5 @@ pub record IsReady (t : Inside) : Type 0 where
   pub token : t.token ≡ token t.ahead.now
   pub token_within : t.token.1 ≤ length t.ahead.now
   pub ahead_within : length t.ahead.now ≤ length t.text.now
-  pub places : t.at + length t.text.now < 4294967295
+  pub places : t.at + length t.text.now < TEXT_LIMIT
   pub names : IsTable (t.known.now ++ t.added)

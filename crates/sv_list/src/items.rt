@@ -1,8 +1,12 @@
 // Lists.
-ghost use Rattle.std.specs.Prelude.{◌≡◌, ◌↔◌, [], ◌∷◌, ◌++◌, length, IsTrue, OnOk, OnErr};
+ghost use Rattle.std.specs.Iterator.Adapters.{IterYieldsInOrder, IterYieldsInReverse};
+ghost use Rattle.std.specs.Prelude.{◌≡◌, ◌<◌, ◌^◌, ◌↔◌, [], ◌∷◌, ◌++◌, length, take, IsTrue, IfOk, OnOk, OnErr};
+ghost use Rattle.std.specs.Slice.Iter.{iter_rest};
 
-use std::alloc::{AllocError, Global};
+use std::alloc::Global;
 use std::marker::Model;
+use std::slice;
+use sv_base::NoMemory;
 
 /// A list that grows at its end. A clause sees it as the list of its items, without the buffer that holds them.
 #[derive(Drop)]
@@ -51,15 +55,63 @@ impl<T> Items<T> {
     {
         self.buffer.as_slice()
     }
+
+    /// Its items, one after the other.
+    pub fn iter(&self) -> slice::Iter<'_, T>
+        ensures rest { iter_rest result ≡ self.now }
+        ensures bound { length (iter_rest result) < 2 ^ 64 }
+        ensures runs { IterYieldsInOrder T }
+        ensures runs_back { IterYieldsInReverse T }
+    {
+        self.buffer.iter()
+    }
 }
 
 impl<T: Drop> Items<T> {
     /// Puts `item` at the end. A list that finds no memory stays as it was.
-    pub fn push(&mut self, item: T) -> Result<(), AllocError>
+    pub fn push(&mut self, item: T) -> Result<(), NoMemory>
         ensures ok { OnOk result (self.new ≡ self.old ++ item ∷ []) }
         ensures err { OnErr result (self.new ≡ self.old) }
     {
         self.buffer.push(item)?;
         Ok(())
+    }
+}
+
+impl<T: Copy> Items<T> {
+    /// A list of the same items.
+    pub fn copy_of(alloc: Global, items: &[T]) -> Result<Items<T>, NoMemory>
+        ensures { IfOk result (λ list. list ≡ items.now) }
+    {
+        let mut list = Items::new(alloc);
+        list.extend_from_slice(items)?;
+        Ok(list)
+    }
+
+    /// Puts the same items at the end. On want of memory some of them may have been put there.
+    pub fn extend_from_slice(&mut self, items: &[T]) -> Result<(), NoMemory>
+        ensures ok { OnOk result (self.new ≡ self.old ++ items.now) }
+        ensures err { OnErr result (take (length self.old) self.new ≡ self.old) }
+    {
+        for item in items {
+            self.push(*item)?;
+        }
+        Ok(())
+    }
+}
+
+impl<'a, T> IntoIterator for &'a Items<T> {
+    ghost use Rattle.std.specs.Prelude.{◌≡◌, ◌<◌, ◌^◌, length};
+    ghost use Rattle.std.specs.Iterator.Adapters.{IterYieldsInOrder};
+    ghost use Rattle.std.specs.Slice.Iter.{iter_rest};
+
+    type Item = &'a T;
+
+    type IntoIter = slice::Iter<'a, T>;
+
+    ghost into_iter_gives = { λ list it. (iter_rest it ≡ list.now) × (length (iter_rest it) < 2 ^ 64) × IterYieldsInOrder T };
+
+    fn into_iter(self) -> slice::Iter<'a, T> {
+        self.iter()
     }
 }

@@ -10,6 +10,7 @@ use Rattle.sv_ast.specs.declared.files.Module.{Module as ModuleTree}
 use Rattle.sv_ast.specs.declared.refusals.ParseError.{ParseError}
 use Rattle.sv_ast.specs.declared.refusals.ParseError.TheVariants as errors
 use Rattle.sv_ast.specs.declared.refusals.Refused.{Refused}
+use Rattle.sv_base.specs.declared.limits.TheConstants.{FILE_LIMIT, FILE_COUNT_LIMIT}
 use Rattle.sv_expr.specs.Limits.{real}
 use Rattle.sv_io.specs.Files.{Files, find_file}
 use Rattle.sv_io.specs.Shelf.{IsGot, IsWithin}
@@ -31,7 +32,7 @@ use Rattle.sv_load.proofs.Told.{IfSome-always, Tells-weaker, Tells-err}
 
 -- ---- the bytes of a file, asked for by a text that is its name
 
-pub finds-found : (told : Option Files) (text name bytes : List ℕ) → text ≡ name → length bytes ≤ 1048576
+pub finds-found : (told : Option Files) (text name bytes : List ℕ) → text ≡ name → length bytes ≤ FILE_LIMIT
     → IfSome told (λ files. find_file files text ≡ Some bytes) → IfSome told (λ files. Finds files name (Ok bytes))
 finds-found told text name bytes same short got = IfSome_then told got (λ files is. found bytes (rw same at is) short)
 
@@ -41,7 +42,7 @@ finds-missing told text name shared same is got =
     IfSome_then told got (λ files none. subst (λ (s : List ℕ). Finds files name (Err (Missing s))) (sym is) (missing (rw same at none)))
 
 pub finds-too_long : (told : Option Files) (text name shared : List ℕ) → text ≡ name → shared ≡ name
-    → IfSome told (λ files. (bytes : List ℕ) × (find_file files text ≡ Some bytes) × (1048576 < length bytes))
+    → IfSome told (λ files. (bytes : List ℕ) × (find_file files text ≡ Some bytes) × (FILE_LIMIT < length bytes))
     → IfSome told (λ files. Finds files name (Err (TooLong shared)))
 finds-too_long told text name shared same is got =
     IfSome_then told got (λ files long. subst (λ (s : List ℕ). Finds files name (Err (TooLong s))) (sym is) (too_long long.0 (rw same at long.1) long.2))
@@ -49,20 +50,20 @@ finds-too_long told text name shared same is got =
 -- ---- what the shelf got
 
 pub got-bytes : (told : Option Files) (text name : List ℕ) (shelf : Got) (bytes : Vec ℕ Global) → shelf ≡ got.Bytes bytes → text ≡ name
-    → IfSome told (λ files. IsGot files text 1048576 shelf) → IsWithin 1048576 shelf → IfSome told (λ files. Finds files name (Ok bytes.items))
+    → IfSome told (λ files. IsGot files text FILE_LIMIT shelf) → IsWithin FILE_LIMIT shelf → IfSome told (λ files. Finds files name (Ok bytes.items))
 got-bytes told text name shelf bytes is same here within =
-    finds-found told text name bytes.items same (subst (λ (g : Got). IsWithin 1048576 g) is within)
-    (subst (λ (g : Got). IfSome told (λ files. IsGot files text 1048576 g)) is here)
+    finds-found told text name bytes.items same (subst (λ (g : Got). IsWithin FILE_LIMIT g) is within)
+    (subst (λ (g : Got). IfSome told (λ files. IsGot files text FILE_LIMIT g)) is here)
 
 pub got-missing : (told : Option Files) (text name shared : List ℕ) (shelf : Got) → shelf ≡ got.Missing → text ≡ name → shared ≡ name
-    → IfSome told (λ files. IsGot files text 1048576 shelf) → IfSome told (λ files. Finds files name (Err (Missing shared)))
+    → IfSome told (λ files. IsGot files text FILE_LIMIT shelf) → IfSome told (λ files. Finds files name (Err (Missing shared)))
 got-missing told text name shared shelf is same share here =
-    finds-missing told text name shared same share (subst (λ (g : Got). IfSome told (λ files. IsGot files text 1048576 g)) is here)
+    finds-missing told text name shared same share (subst (λ (g : Got). IfSome told (λ files. IsGot files text FILE_LIMIT g)) is here)
 
 pub got-too_long : (told : Option Files) (text name shared : List ℕ) (shelf : Got) → shelf ≡ got.TooLong → text ≡ name → shared ≡ name
-    → IfSome told (λ files. IsGot files text 1048576 shelf) → IfSome told (λ files. Finds files name (Err (TooLong shared)))
+    → IfSome told (λ files. IsGot files text FILE_LIMIT shelf) → IfSome told (λ files. Finds files name (Err (TooLong shared)))
 got-too_long told text name shared shelf is same share here =
-    finds-too_long told text name shared same share (subst (λ (g : Got). IfSome told (λ files. IsGot files text 1048576 g)) is here)
+    finds-too_long told text name shared same share (subst (λ (g : Got). IfSome told (λ files. IsGot files text FILE_LIMIT g)) is here)
 
 -- ---- the tree of a file
 
@@ -105,17 +106,17 @@ holds-no_tree number name bytes names cause error none is =
 
 -- ---- what a name comes to
 
-pub opens-too_many : (told : Option Files) (number : ℕ) (name shared : List ℕ) (names : List (List ℕ)) → 64 ≤ number → shared ≡ name
+pub opens-too_many : (told : Option Files) (number : ℕ) (name shared : List ℕ) (names : List (List ℕ)) → FILE_COUNT_LIMIT ≤ number → shared ≡ name
     → IfSome told (λ files. Tells (Opens files number name names) (Err (TooMany shared)))
 opens-too_many told number name shared names many is =
     IfSome-always told (λ files. subst (λ (s : List ℕ). Opens files number name names (Err (TooMany s))) (sym is) (too_many many))
 
-pub opens-not_found : (told : Option Files) (number : ℕ) (name : List ℕ) (names : List (List ℕ)) (error : LoadError) → number < 64
+pub opens-not_found : (told : Option Files) (number : ℕ) (name : List ℕ) (names : List (List ℕ)) (error : LoadError) → number < FILE_COUNT_LIMIT
     → IfSome told (λ files. Tells (Finds files name) (Err error)) → IfSome told (λ files. Tells (Opens files number name names) (Err error))
 opens-not_found told number name names error few finds =
     IfSome_then told finds (λ files p. Tells-err (Finds files name) (Opens files number name names) error (λ e p. not_found e few p) p)
 
-pub opens-opens : (told : Option Files) (number : ℕ) (name bytes text : List ℕ) (names : List (List ℕ)) (outcome : Result Opened LoadError) → number < 64
+pub opens-opens : (told : Option Files) (number : ℕ) (name bytes text : List ℕ) (names : List (List ℕ)) (outcome : Result Opened LoadError) → number < FILE_COUNT_LIMIT
     → IfSome told (λ files. Tells (Finds files name) (Ok bytes)) → text ≡ bytes → Tells (Holds number name text names) outcome
     → IfSome told (λ files. Tells (Opens files number name names) outcome)
 opens-opens told number name bytes text names outcome few finds same holds =

@@ -1,6 +1,7 @@
 -- The same files and root come to one outcome.
 use Rattle.std.proofs.Common.{◌≡◌, ◌<◌, ◌≤◌, ℕ, List, [], ◌∷◌, length, Bool, true, false, Option, refl, ap, sym, ◌∙◌, arith, inl, inr, subst}
 use Rattle.std.specs.Prelude.{Some, None, Result, Ok, Err, ◌⊎◌}
+use Rattle.sv_base.specs.declared.limits.TheConstants.{FILE_COUNT_LIMIT}
 use Rattle.sv_ast.specs.declared.files.Bundle.{Bundle}
 use Rattle.sv_io.specs.Files.{Files}
 use Rattle.sv_script.specs.Calls.{input_of}
@@ -41,7 +42,7 @@ err-same A B x y same =
     let one : x ≡ y = cc in
     ap (λ e. wrong B e) one
 
-crowded : {P : Type 0} (n : ℕ) → 64 ≤ n → n < 64 → P
+crowded : {P : Type 0} (n : ℕ) → FILE_COUNT_LIMIT ≤ n → n < FILE_COUNT_LIMIT → P
 crowded n many few = absurd (omega (arith, many, few))
 
 Finds-unique : (files : Files) (name : List ℕ) (a b : Result (List ℕ) LoadError) → Finds files name a → Finds files name b → a ≡ b

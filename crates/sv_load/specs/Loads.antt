@@ -3,6 +3,7 @@ use Rattle.std.specs.Prelude.{◌≡◌, ◌<◌, ◌≤◌, ℕ, Bool, true, fa
 use Rattle.std.specs.List.{list_any}
 use Rattle.std.specs.Str.{bytes_eq}
 use Rattle.sv_base.specs.Place.{line_of, column_of}
+use Rattle.sv_base.specs.declared.limits.TheConstants.{FILE_LIMIT, FILE_COUNT_LIMIT}
 use Rattle.sv_io.specs.Files.{Files, find_file}
 use Rattle.sv_ast.specs.declared.files.Bundle.{Bundle}
 use Rattle.sv_ast.specs.declared.files.FileTree.{FileTree}
@@ -34,14 +35,14 @@ pub data Holds (number : ℕ) (name bytes : List ℕ) (names : List (List ℕ)) 
 -- the file of a name is there and not too long, or why not
 pub data Finds (files : Files) (name : List ℕ) : Result (List ℕ) LoadError → Type 0 where
   missing : find_file files name ≡ None → Finds files name (Err (Missing name))
-  too_long : (bytes : List ℕ) → find_file files name ≡ Some bytes → 1048576 < length bytes → Finds files name (Err (TooLong name))
-  found : (bytes : List ℕ) → find_file files name ≡ Some bytes → length bytes ≤ 1048576 → Finds files name (Ok bytes)
+  too_long : (bytes : List ℕ) → find_file files name ≡ Some bytes → FILE_LIMIT < length bytes → Finds files name (Err (TooLong name))
+  found : (bytes : List ℕ) → find_file files name ≡ Some bytes → length bytes ≤ FILE_LIMIT → Finds files name (Ok bytes)
 
--- what the file of a name comes to, where so many were read before: the 65th is refused without a look at it
+-- what the file of a name comes to, where so many were read before: one too many is refused without a look at it
 pub data Opens (files : Files) (number : ℕ) (name : List ℕ) (names : List (List ℕ)) : Result Opened LoadError → Type 0 where
-  too_many : 64 ≤ number → Opens files number name names (Err (TooMany name))
-  not_found : (error : LoadError) → number < 64 → Finds files name (Err error) → Opens files number name names (Err error)
-  there : (bytes : List ℕ) (outcome : Result Opened LoadError) → number < 64 → Finds files name (Ok bytes) → Holds number name bytes names outcome
+  too_many : FILE_COUNT_LIMIT ≤ number → Opens files number name names (Err (TooMany name))
+  not_found : (error : LoadError) → number < FILE_COUNT_LIMIT → Finds files name (Err error) → Opens files number name names (Err error)
+  there : (bytes : List ℕ) (outcome : Result Opened LoadError) → number < FILE_COUNT_LIMIT → Finds files name (Ok bytes) → Holds number name bytes names outcome
       → Opens files number name names outcome
 
 -- whether a file of this name was read

@@ -12,13 +12,10 @@ use crate::imports::is_module;
 use crate::refusals::LoadError;
 use std::alloc::Global;
 use sv_ast::{FileTree, ParseError, Refused, SourceFile};
-use sv_base::{FILE_LIMIT, Names, NoMemory, TEXT_LIMIT, Text, line_col};
+use sv_base::{FILE_COUNT_LIMIT, FILE_LIMIT, Names, NoMemory, TEXT_LIMIT, Text, line_col};
 use sv_io::{Got, Shelf, ShelfError};
 use sv_lines::line_starts;
 use sv_markup::{parse_component, parse_module};
-
-/// The most files of a program.
-pub const FILE_COUNT_LIMIT: usize = 64;
 
 // The bytes of a file.
 fn find<F: Shelf>(alloc: Global, shelf: &mut F, name: &Text) -> Result<Vec<u8>, LoadError>

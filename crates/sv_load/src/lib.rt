@@ -8,7 +8,6 @@ mod laws;
 mod loading;
 mod refusals;
 
-pub use file::FILE_COUNT_LIMIT;
 pub use laws::one_outcome;
 pub use loading::load;
 pub use refusals::LoadError;

@@ -1,12 +1,13 @@
 // Reads a file and what it imports.
 ghost use Rattle.std.specs.Prelude.{◌≡◌, ◌≤◌, length, IfOk, OnOk, IfSome};
+ghost use Rattle.sv_base.specs.declared.limits.TheConstants.{FILE_COUNT_LIMIT};
 ghost use Rattle.sv_io.specs.Faults.{Rose};
 ghost use Rattle.sv_lines.specs.Lines.{LinesAscend};
 ghost use Rattle.sv_load.specs.Calls.{outcome_of};
 ghost use Rattle.sv_load.specs.Loads as spec;
 ghost use Rattle.sv_load.specs.Loads.{Loads, Reads, ReadsAll, Tells};
 
-use crate::file::{FILE_COUNT_LIMIT, open};
+use crate::file::open;
 use crate::imports::imported;
 use crate::refusals::LoadError;
 use std::alloc::Global;

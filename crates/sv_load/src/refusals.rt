@@ -1,5 +1,4 @@
 // Why the files of a program are not loaded.
-use std::alloc::AllocError;
 use sv_ast::Kind;
 use sv_base::{NoMemory, Text};
 use thiserror::Error;
@@ -38,17 +37,6 @@ impl From<NoMemory> for LoadError {
     ghost from_gives = { λ _ error. error ≡ errors.NoMemory };
 
     fn from(_: NoMemory) -> LoadError {
-        LoadError::NoMemory
-    }
-}
-
-impl From<AllocError> for LoadError {
-    ghost use Rattle.std.specs.Prelude.{◌≡◌};
-    ghost use Rattle.sv_load.specs.declared.refusals.LoadError.TheVariants as errors;
-
-    ghost from_gives = { λ _ error. error ≡ errors.NoMemory };
-
-    fn from(_: AllocError) -> LoadError {
         LoadError::NoMemory
     }
 }

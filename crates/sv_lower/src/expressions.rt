@@ -4,10 +4,10 @@ ghost use Rattle.sv_lower.specs.Does.{each, given};
 ghost use Rattle.sv_lower.specs.Lower as spec;
 
 use crate::lists::{lower_exprs, lower_fields, lower_items, lower_links};
-use crate::names::{copy_names, next_number};
+use crate::names::next_number;
 use crate::statements::lower_stmts;
 use std::alloc::Global;
-use sv_ast::{Body, Entry, Expr, ExprKind, Field, Link, Named};
+use sv_ast::{Body, Entry, Expr, ExprKind, Field, Link, NameList, Named};
 use sv_base::NoMemory;
 use sv_code::{Code, CodeField, CodeItem, CodeKind, CodeLink, Function, FunctionBody, Functions};
 
@@ -176,7 +176,7 @@ fn lower_arrow(
     ensures number { IfOk result (λ number. number ≡ (spec.numbered params.now (spec.of_body body.now) functions.old).0) }
     ensures functions { OnOk result (functions.new ≡ (spec.numbered params.now (spec.of_body body.now) functions.old).1) }
 {
-    let params = copy_names(alloc, params)?;
+    let params = NameList::copy_of(alloc, params)?;
     let body = lower_body(alloc, functions, body)?;
     let number = next_number(functions)?;
     functions.push(Function { params, body })?;

@@ -6,9 +6,9 @@ ghost use Rattle.sv_lower.specs.Does.{each, given, of_one};
 ghost use Rattle.sv_lower.specs.Lower as spec;
 
 use crate::expressions::{lower_expr, lower_given};
-use crate::names::{copy_import, copy_names, next_number};
+use crate::names::{copy_import, next_number};
 use std::alloc::Global;
-use sv_ast::{Arm, Decl, Named, Stmt, StmtKind};
+use sv_ast::{Arm, Decl, NameList, Named, Stmt, StmtKind};
 use sv_base::NoMemory;
 use sv_code::{
     Code, CodeArm, CodeArms, CodeDecl, CodeDecls, CodeStmt, CodeStmtKind, CodeStmts, Function,
@@ -179,7 +179,7 @@ fn lower_function(
     ensures number { IfOk result (λ number. number ≡ (spec.numbered params.now (of_one body_code.Block (each (map spec.of_stmt stmts.now))) functions.old).0) }
     ensures functions { OnOk result (functions.new ≡ (spec.numbered params.now (of_one body_code.Block (each (map spec.of_stmt stmts.now))) functions.old).1) }
 {
-    let params = copy_names(alloc, params)?;
+    let params = NameList::copy_of(alloc, params)?;
     let body = FunctionBody::Block(lower_stmts(alloc, functions, stmts)?);
     let number = next_number(functions)?;
     functions.push(Function { params, body })?;

@@ -12,7 +12,7 @@ use crate::leaves::block_end;
 use crate::rules::Rules;
 use std::alloc::Global;
 use sv_ast::{Branch, Branches, Kind, Markup, Nodes, ParseError};
-use sv_expr::LINK_LIMIT;
+use sv_base::LINK_LIMIT;
 use sv_lex::Source;
 use sv_list::Items;
 

@@ -10,7 +10,7 @@ use crate::pieces::{Piece, piece_at};
 use crate::rules::{Rules, add};
 use std::alloc::Global;
 use sv_ast::{Kind, Nodes, ParseError, Stmts};
-use sv_expr::NEST_LIMIT;
+use sv_base::NEST_LIMIT;
 use sv_lex::Source;
 use sv_list::Items;
 use sv_tags::{script, style};

@@ -10,14 +10,15 @@ ghost use Rattle.sv_markup.specs.Rules.{inside};
 
 use crate::leaves::{show, words};
 use crate::pieces::{Form, Piece, piece_at};
-use std::alloc::{AllocError, Global};
+use std::alloc::Global;
 use sv_ast::{Kind, Markup, Nodes, ParseError};
+use sv_base::NoMemory;
 use sv_lex::Source;
 use sv_list::Items;
 use sv_tags::comment;
 
 /// Puts a node behind those that were found, if there is one.
-pub(crate) fn add(found: &mut Nodes, node: Option<Markup>) -> Result<(), AllocError>
+pub(crate) fn add(found: &mut Nodes, node: Option<Markup>) -> Result<(), NoMemory>
     ensures { OnOk result (found.new ≡ with_node node found.old) }
 {
     match node {

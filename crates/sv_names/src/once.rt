@@ -67,17 +67,6 @@ impl Distinct {
     pub(crate) fn to_list(&self, alloc: Global) -> Result<RefList, NoMemory>
         ensures { IfOk result (λ list. list ≡ self.now) }
     {
-        copied(alloc, self.names.as_slice())
+        RefList::copy_of(alloc, self.names.as_slice())
     }
-}
-
-// A list of the same names.
-fn copied(alloc: Global, names: &[Ref]) -> Result<RefList, NoMemory>
-    ensures { IfOk result (λ list. list ≡ names.now) }
-{
-    let mut list = RefList::new(alloc);
-    for name in names {
-        list.push(*name)?;
-    }
-    Ok(list)
 }

@@ -1,9 +1,12 @@
 -- Expressions that may stand in markup: their evaluation assigns nothing, and calls nothing but what reads no variable of its own.
 -- Others have places where they aren't pure: the assignments, and the calls that may not be made. The bodies of arrows that an
 -- expression only makes are not evaluated with it, and have none. Scopes are those of names (ECMA-262, 9.1 and 14.2):
--- a name that a scope declares is its own in the whole of it, and hides a pure function of that name.
-use Rattle.std.specs.Prelude.{Bool, true, false, not, ◌&&◌, ◌||◌, List, [], ◌∷◌, ◌++◌, Option, None, Some, map, filter, codes}
+-- a name that a scope declares is its own in the whole of it, and hides what is known by that name.
+use Rattle.std.specs.Prelude.{Bool, true, false, not, ◌&&◌, ◌||◌, List, [], ◌∷◌, ◌++◌, Option, None, Some, map, filter}
 use Rattle.std.specs.Option.{option_to_list}
+use Rattle.sv_base.specs.BuiltIn.{list_calls, value_calls, math_functions}
+use Rattle.sv_base.specs.Names.{Table, is_text, is_one_of}
+use Rattle.sv_base.specs.declared.built_in.TheConstants.{MATH}
 use Rattle.sv_base.specs.declared.names.Name.{Name}
 use Rattle.sv_base.specs.declared.span.Span.{Span}
 use Rattle.sv_ast.specs.declared.names.Ref.{Ref}
@@ -20,17 +23,17 @@ use Rattle.sv_ast.specs.declared.script_tree.Stmt.{Stmt, Stmt-F, fold-Stmt}
 use Rattle.sv_ast.specs.declared.script_tree.StmtKind.{StmtKind, StmtKind-F, fold-StmtKind}
 use Rattle.sv_names.specs.Distinct.{has}
 use Rattle.sv_names.specs.Uses.{named, imported}
-use Rattle.sv_purity.specs.Calls.{Table, list_calls, value_calls, math_calls, is_among}
+use Rattle.sv_purity.specs.declared.scope.Known.{Known}
 use Rattle.sv_purity.specs.First.{is_empty}
 
 -- the places of a part of a tree that aren't pure, in the order of the text, where the part was read with a table of names, and
--- some names are those of pure functions
+-- some names are known
 abbrev pub Places : Type 0
-Places = Table → List Ref → List Span
+Places = Table → Known → List Span
 
 -- a question about a part of a tree
 abbrev pub Test : Type 0
-Test = Table → List Ref → Bool
+Test = Table → Known → Bool
 
 -- the form of an expression, as far as a call asks: a name, a member of something, an arrow with the places of its body
 pub data Form : Type 0 where
@@ -56,13 +59,13 @@ pub record Part : Type 0 where
 -- ---- places of more than one part
 
 abbrev pub nowhere : Places
-nowhere table pure = []
+nowhere table known = []
 
 abbrev pub here : Span → Places
-here at table pure = at ∷ []
+here at table known = at ∷ []
 
 abbrev pub both : Places → Places → Places
-both first second table pure = first table pure ++ second table pure
+both first second table known = first table known ++ second table known
 
 abbrev pub each : List Places → Places
 each [] = nowhere
@@ -73,42 +76,50 @@ abbrev pub given : Option Asked → Places
 given None = nowhere
 given (Some value) = value.places
 
--- the pure functions without those of some names
+-- some names without others
 abbrev pub without : List Ref → List Ref → List Ref
-without names pure = filter (λ name. not (has name names)) pure
+without names all = filter (λ name. not (has name names)) all
+
+-- what is known where a scope declares some names, which hide it
+abbrev pub hiding : List Ref → Known → Known
+hiding names known = record { functions = without names known.functions; conversions = without names known.conversions }
 
 -- a scope with some names and what stands in it
 abbrev pub inside : List Ref → Part → Places
-inside names part table pure = part.places table (without (names ++ part.declares) pure)
+inside names part table known = part.places table (hiding (names ++ part.declares) known)
 
 -- ---- calls
 
 -- the name `Math`
 abbrev pub is_math : Form → Table → Bool
-is_math (Named (Plain name)) table = is_among (codes "Math" ∷ []) table name
+is_math (Named (Plain name)) table = is_text table MATH.now name
 is_math _ table = false
 
--- a pure function: its name, or an arrow whose body is pure
+-- what may be handed to a call on a list as its function: the name of a pure function, or an arrow whose body is pure
 abbrev pub is_function : Form → Test
-is_function (Named name) table pure = has name pure
-is_function (Function body) table pure = is_empty (body table pure)
-is_function _ table pure = false
+is_function (Named name) table known = has name known.functions
+is_function (Function body) table known = is_empty (body table known)
+is_function _ table known = false
 
 -- the first of some arguments is a pure function
 abbrev pub begins_with_function : List Form → Test
-begins_with_function [] table pure = false
-begins_with_function (first ∷ _) table pure = is_function first table pure
+begins_with_function [] table known = false
+begins_with_function (first ∷ _) table known = is_function first table known
 
 -- the call of a member is one on a list or a text, or one of `Math`
 abbrev pub may_call_member : Form → Name → List Form → Test
-may_call_member of word args table pure =
-    is_among value_calls table word || (is_among list_calls table word && begins_with_function args table pure) || (is_math of table && is_among math_calls table word)
+may_call_member of word args table known =
+    is_one_of table value_calls word || (is_one_of table list_calls word && begins_with_function args table known) || (is_math of table && is_one_of table math_functions word)
+
+-- a name may be called: that of a pure function, or one that may be called alone
+abbrev pub is_callable : Known → Ref → Bool
+is_callable known name = has name known.functions || has name known.conversions
 
 -- what has this form may be called with arguments of these forms
 abbrev pub may_call : Form → List Form → Test
-may_call (Named name) args table pure = has name pure
-may_call (MemberOf of word) args table pure = may_call_member of word args table pure
-may_call _ args table pure = false
+may_call (Named name) args table known = is_callable known name
+may_call (MemberOf of word) args table known = may_call_member of word args table known
+may_call _ args table known = false
 
 -- what a call has of its own: nothing where it may be made
 abbrev pub own_place : Bool → Span → List Span
@@ -116,7 +127,7 @@ own_place true at = []
 own_place false at = at ∷ []
 
 abbrev pub unless : Test → Span → Places
-unless test at table pure = own_place (test table pure) at
+unless test at table known = own_place (test table known) at
 
 -- a call: its own place, and those of its parts
 abbrev pub call : Span → Asked → List Asked → Places
@@ -235,10 +246,10 @@ stmt_kind_part = fold-StmtKind Part Places Placed Places Part Places Part Asked 
 abbrev pub stmt_part : Stmt → Part
 stmt_part = fold-Stmt Part Places Placed Places Part Places Part Asked Places Part body entry expr_kind field stmt_kind arm decl expr link stmt
 
--- the places of an expression that aren't pure, where it was read with a table of names, and some names are those of pure functions
-abbrev pub impurities : Table → Expr → List Ref → List Span
-impurities table e pure = (asked e).places table pure
+-- the places of an expression that aren't pure, where it was read with a table of names, and some names are known
+abbrev pub impurities : Table → Expr → Known → List Span
+impurities table e known = (asked e).places table known
 
 -- an expression is pure
-abbrev pub is_pure : Table → Expr → List Ref → Bool
-is_pure table e pure = is_empty (impurities table e pure)
+abbrev pub is_pure : Table → Expr → Known → Bool
+is_pure table e known = is_empty (impurities table e known)

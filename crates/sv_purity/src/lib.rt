@@ -6,5 +6,5 @@ mod scope;
 mod words;
 
 pub use pure::{first_impurity, is_pure};
-pub use scope::Scope;
+pub use scope::{Known, Scope};
 pub use words::{is_list_call, is_math, is_math_call, is_value_call};

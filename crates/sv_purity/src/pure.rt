@@ -8,7 +8,7 @@ ghost use Rattle.sv_purity.specs.First.{first, outcome};
 ghost use Rattle.sv_purity.specs.Pure as spec;
 ghost use Rattle.sv_purity.specs.Scopes.{visible};
 
-use crate::scope::{Scope, is_pure_name};
+use crate::scope::{Scope, is_callable, is_pure_name};
 use crate::words::{is_list_call, is_math, is_math_call, is_value_call};
 use std::slice;
 use sv_ast::{
@@ -23,29 +23,32 @@ use sv_base::{Names, Span};
 ///   `split`; or of `map`, `filter`, `some`, `every`, `find`, `findIndex`, `forEach` or `reduce`, whose first argument is the name
 ///   of a pure function or an arrow with a pure body.
 /// - A call of `Math.abs`, `Math.min`, `Math.max`, `Math.floor` or `Math.trunc`.
-/// - A call of the name of a pure function.
+/// - A call of the name of a pure function, or of `String` or `Boolean`, which may not be handed on.
 ///
-/// `names` is the table of names with which the expression was read, and `pure` lists the names that stand for pure functions where
-/// it stands. `String` and `Boolean` are such names where nothing declares them anew. They can't be told from others here, so
-/// `l.map(String)` is pure wherever `String(v)` is.
+/// `names` is the table of names with which the expression was read. `functions` lists the names that stand for pure functions where it
+/// stands, and `conversions` those of `String` and `Boolean` where nothing declares them anew.
 ///
 /// The body of an arrow that is only made isn't evaluated, and isn't looked at. In the body of an arrow that a call takes, its
-/// parameters hide pure functions of their names, and so does what a block or the head of a `for` declares, in the whole of it.
+/// parameters hide what is known by their names, and so does what a block or the head of a `for` declares, in the whole of it.
 ///
 /// The rule is this project's own: a part of a page is evaluated again where a variable that it names has changed, so a call that
 /// reads another one would leave it as it was.
 #[tactic(auto, using(crate::proofs::First::is_none_first))]
-pub fn is_pure(names: &Names, e: &Expr, pure: &RefList) -> bool
-    ensures { result ≡ spec.is_pure names.now e.now pure.now }
+pub fn is_pure(names: &Names, e: &Expr, functions: &RefList, conversions: &RefList) -> bool
+    ensures { result ≡ spec.is_pure names.now e.now (record { functions = functions.now; conversions = conversions.now }) }
 {
-    first_impurity(names, e, &Scope::Listed(pure.as_slice())).is_none()
+    let known = Scope::Listed {
+        functions: functions.as_slice(),
+        conversions: conversions.as_slice(),
+    };
+    first_impurity(names, e, &known).is_none()
 }
 
 /// The first place where an expression isn't pure, in the order of the text, or `None` where it is: an assignment, a `++` or `--`, or
 /// a call of none of the three kinds. Such a call stands before what is found in its parts. A call on a list whose arrow hasn't a
-/// pure body is that place itself. `scope` tells which pure functions are seen where the expression stands.
+/// pure body is that place itself. `scope` tells what is known where the expression stands.
 ///
-/// A scope in the expression that declares no name of a pure function is passed over, after one look at its declarations. One that
+/// A scope in the expression that hides nothing that is known is passed over, after one look at its declarations. One that
 /// declares such a name anew is looked through again for each name that is called or handed to a call in it, and for each that a
 /// scope in it declares: a long block of that kind takes time in the square of its length.
 #[tactic(auto, using(crate::proofs::First::result_err_outcome))]
@@ -195,7 +198,7 @@ fn may_call(args: &[Expr], of: &Expr, names: &Names, scope: &Scope<'_>) -> bool
     ensures { result ≡ spec.may_call (spec.asked of.now).form (map (λ arg. arg.form) (map spec.asked args.now)) names.now (visible scope.now) }
 {
     match of.kind.get() {
-        ExprKind::Read(name) => is_pure_name(scope, *name),
+        ExprKind::Read(name) => is_callable(scope, *name),
         ExprKind::Member { of, word } => {
             is_value_call(names, *word)
                 || is_list_call(names, *word) && begins_with_function(args, names, scope)

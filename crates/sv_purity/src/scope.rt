@@ -4,20 +4,33 @@ ghost use Rattle.std.specs.List.{list_any};
 ghost use Rattle.sv_ast.specs.declared.names.Ref.{Ref};
 ghost use Rattle.sv_names.specs.Distinct.{same_ref, has};
 ghost use Rattle.sv_names.specs.Uses.{named, imported};
-ghost use Rattle.sv_purity.specs.Pure.{together, decl_part, stmt_part, without};
+ghost use Rattle.sv_purity.specs.Pure as spec;
+ghost use Rattle.sv_purity.specs.Pure.{together, decl_part, stmt_part, hiding};
 ghost use Rattle.sv_purity.specs.Scopes.{declared_by, visible};
 
 use sv_ast::{Decl, Import, Named, Ref, Spec, Stmt, StmtKind};
 use sv_names::Distinct;
 
-/// The pure functions that are seen from some place: those of the whole, but for what the scopes round the place hide. A clause sees
-/// it by `visible`, the list of their names.
+/// The names by which something is known that changes nothing, and reads nothing but what it is given.
+#[derive(Drop)]
+pub struct Known {
+    /// The names of pure functions, which may be called, and handed to a call on a list as its function.
+    pub functions: Distinct,
+    /// The names that may be called, and not handed on: `String` and `Boolean`.
+    pub conversions: Distinct,
+}
+
+/// What is known by name at some place: what is known of the whole, but for what the scopes round the place hide. A clause sees it by
+/// `visible`.
 #[derive(Clone, Copy)]
 pub enum Scope<'a> {
-    /// Round the whole: the names of the pure functions.
-    Top(&'a Distinct),
-    /// The same as a list, in which each name is looked for from the front.
-    Listed(&'a [Ref]),
+    /// Round the whole.
+    Top(&'a Known),
+    /// The same as lists, in which each name is looked for from the front.
+    Listed {
+        functions: &'a [Ref],
+        conversions: &'a [Ref],
+    },
     /// In a scope that declares some names.
     Hiding {
         outer: &'a Scope<'a>,
@@ -34,9 +47,9 @@ pub enum Scope<'a> {
 impl<'a> Scope<'a> {
     /// A scope in another, which declares parameters and what its statements declare. One that hides nothing is passed over: it is
     /// the scope round it.
-    #[tactic(auto, using(crate::proofs::Hiding::without_none))]
+    #[tactic(auto, using(crate::proofs::Hiding::hiding_none))]
     pub(crate) fn inside(outer: &'a Scope<'a>, params: &'a [Named], stmts: &'a [Stmt]) -> Scope<'a>
-        ensures { visible result ≡ without (declared_by params.now stmts.now) (visible outer.now) }
+        ensures { visible result ≡ hiding (declared_by params.now stmts.now) (visible outer.now) }
     {
         if is_any_declared(params, stmts, outer) {
             Scope::Inner {
@@ -68,23 +81,43 @@ impl Sought for Ref {
     }
 }
 
-// Any name of a pure function that is seen here.
+// Any name by which something is known here.
 impl Sought for Scope<'_> {
-    ghost is_sought = { λ scope name. has name (visible scope) };
+    ghost is_sought = { λ scope name. spec.is_callable (visible scope) name };
 
     fn seeks(&self, name: Ref) -> bool {
-        is_pure_name(self, name)
+        is_callable(self, name)
+    }
+}
+
+/// Whether a name may be called here.
+#[tactic(auto, using(crate::proofs::Hiding::is_callable_hiding))]
+pub(crate) fn is_callable(scope: &Scope<'_>, name: Ref) -> bool
+    ensures { result ≡ spec.is_callable (visible scope.now) name }
+{
+    match scope {
+        Scope::Top(known) => known.functions.has(name) || known.conversions.has(name),
+        Scope::Listed {
+            functions,
+            conversions,
+        } => functions.contains(&name) || conversions.contains(&name),
+        Scope::Hiding { outer, names } => !names.has(name) && is_callable(outer, name),
+        Scope::Inner {
+            outer,
+            params,
+            stmts,
+        } => !is_any_declared(params, stmts, &name) && is_callable(outer, name),
     }
 }
 
 /// Whether a name is that of a pure function here.
 #[tactic(auto, using(crate::proofs::Hiding::has_without))]
 pub(crate) fn is_pure_name(scope: &Scope<'_>, name: Ref) -> bool
-    ensures { result ≡ has name (visible scope.now) }
+    ensures { result ≡ has name (visible scope.now).functions }
 {
     match scope {
-        Scope::Top(pure) => pure.has(name),
-        Scope::Listed(pure) => pure.contains(&name),
+        Scope::Top(known) => known.functions.has(name),
+        Scope::Listed { functions, .. } => functions.contains(&name),
         Scope::Hiding { outer, names } => !names.has(name) && is_pure_name(outer, name),
         Scope::Inner {
             outer,

@@ -359,17 +359,8 @@ fn find_part(seen: &mut Seen, own: &LocalScope<'_>, part: &Part) -> Result<(), N
 fn find_reads(seen: &mut Seen, own: &LocalScope<'_>, reads: &Reading) -> Result<(), NoMemory>
     ensures { OnOk result (spec.Finds seen.old seen.new (spec.read reads.now (names_of own.now))) }
 {
-    add_cells(&mut seen.cells, reads.cells.as_slice())?;
+    seen.cells.extend_from_slice(reads.cells.as_slice())?;
     add_locals(&mut seen.locals, own, reads.locals.as_slice())
-}
-
-fn add_cells(cells: &mut CellList, more: &[u8]) -> Result<(), NoMemory>
-    ensures { OnOk result (cells.new ≡ cells.old ++ more.now) }
-{
-    for cell in more {
-        cells.push(*cell)?;
-    }
-    Ok(())
 }
 
 fn add_locals(locals: &mut RefList, own: &LocalScope<'_>, more: &[Name]) -> Result<(), NoMemory>

@@ -6,6 +6,7 @@ use Rattle.std.proofs.lemmas.Grind.{flat_map-append}
 use Rattle.std.proofs.lemmas.List.{append-nil, map-append}
 use Rattle.std.proofs.lemmas.List.Elements.{All-nil, All-cons, All-append, All-push, All-weaker}
 use Rattle.std.proofs.lemmas.List.Sums.{fold-append}
+use Rattle.sv_base.specs.Names.{Table}
 use Rattle.sv_resolve.specs.declared.refusals.CheckKind.{CheckKind}
 use Rattle.sv_resolve.specs.declared.refusals.CheckKind.TheVariants.{DeclaredTwice, UnknownName, AssignConst, CapturedAssign}
 use Rattle.sv_resolve.specs.declared.refusals.CheckRefusal.{CheckRefusal}
@@ -13,7 +14,7 @@ use Rattle.sv_scopes.specs.declared.words.FileScopes.{FileScopes}
 use Rattle.sv_scopes.specs.declared.words.Scope.{Scope}
 use Rattle.sv_base.specs.declared.span.Span.{Span}
 use Rattle.sv_resolve.specs.Earliest.{earlier, IsFirst}
-use Rattle.sv_resolve.specs.Mistakes.{Texts, refused, all_scopes, declared_twice, unknown_names, constant_assigns, captured_assigns, mistakes}
+use Rattle.sv_resolve.specs.Mistakes.{refused, all_scopes, declared_twice, unknown_names, constant_assigns, captured_assigns, mistakes}
 
 abbrev IsBefore : CheckRefusal → CheckRefusal → Type 0
 IsBefore a b = a.at.from < b.at.from
@@ -68,7 +69,7 @@ of_all kind f first file =
     ∙ ap (fold earlier first) (sym (map-append _ (flat_map f file.inside) (f file.top))
     ∙ ap of (ap (λ z. flat_map f file.inside ++ z) (sym (append-nil (f file.top))) ∙ sym (flat_map-append f file.inside (file.top ∷ []))))
 
-pub all_offered : (texts : Texts) (file : FileScopes) (f1 f2 f3 f4 f5 f6 : Option CheckRefusal) → f1 ≡ fold earlier None (refused DeclaredTwice (flat_map (declared_twice texts) file.inside))
+pub all_offered : (texts : Table) (file : FileScopes) (f1 f2 f3 f4 f5 f6 : Option CheckRefusal) → f1 ≡ fold earlier None (refused DeclaredTwice (flat_map (declared_twice texts) file.inside))
     → f2 ≡ fold earlier f1 (refused DeclaredTwice (declared_twice texts file.top)) → f3 ≡ fold earlier f2 (refused UnknownName (unknown_names texts file.top))
     → f4 ≡ fold earlier f3 (refused AssignConst (flat_map constant_assigns file.inside)) → f5 ≡ fold earlier f4 (refused AssignConst (constant_assigns file.top))
     → f6 ≡ fold earlier f5 (refused CapturedAssign (flat_map captured_assigns file.inside)) → IsFirst f6 (mistakes texts file)

@@ -1,15 +1,18 @@
 -- The mistakes that the scopes of a file show, each kind as the list of its places.
-use Rattle.std.specs.Prelude.{ℕ, Bool, true, false, not, ◌&&◌, ◌||◌, List, [], ◌∷◌, ◌++◌, map, filter, codes, if◌then◌else◌}
+use Rattle.std.specs.Prelude.{Bool, true, false, not, ◌&&◌, ◌||◌, List, [], ◌∷◌, ◌++◌, map, filter, if◌then◌else◌}
 use Rattle.std.specs.List.{flat_map}
 use Rattle.sv_ast.specs.declared.names.Ref.{Ref}
 use Rattle.sv_ast.specs.declared.names.Ref.TheVariants.{Plain, Store}
+use Rattle.sv_base.specs.BuiltIn.{conversions, math_functions}
+use Rattle.sv_base.specs.Names.{Table, is_text, is_one_of}
+use Rattle.sv_base.specs.declared.built_in.TheConstants.{MATH, CONSOLE, LOG}
 use Rattle.sv_base.specs.declared.names.Name.{Name}
 use Rattle.sv_base.specs.declared.span.Span.{Span}
 use Rattle.sv_names.specs.Distinct.{has, with_name}
 use Rattle.sv_resolve.specs.declared.refusals.CheckKind.{CheckKind}
 use Rattle.sv_resolve.specs.declared.refusals.CheckKind.TheVariants.{DeclaredTwice, UnknownName, AssignConst, CapturedAssign}
 use Rattle.sv_resolve.specs.declared.refusals.CheckRefusal.{CheckRefusal}
-use Rattle.sv_resolve.specs.Places.{is_text, name_place}
+use Rattle.sv_resolve.specs.Places.{name_place}
 use Rattle.sv_scopes.specs.declared.words.Binding.{Binding}
 use Rattle.sv_scopes.specs.declared.words.Binding.TheVariants.{Const, Function, Import, Component}
 use Rattle.sv_scopes.specs.declared.words.Declared.{Declared}
@@ -22,34 +25,27 @@ use Rattle.sv_scopes.specs.declared.words.Scope.{Scope}
 use Rattle.sv_scopes.specs.declared.words.Use.{Use}
 use Rattle.sv_scopes.specs.Parts.{names_of, is_tag}
 
-abbrev pub Texts : Type 0
-Texts = List (List ℕ)
-
 -- ---- a name declared twice, or `Math`
 
 -- the declarations of names that are known, or that an earlier one declares, and those of `Math`
-abbrev pub again : Texts → List Ref → List Declared → List Span
+abbrev pub again : Table → List Ref → List Declared → List Span
 again names known [] = []
-again names known (d ∷ ds) = (if has (Plain d.name) known || is_text names (codes "Math") d.name then d.span ∷ [] else []) ++ again names (with_name known (Plain d.name)) ds
+again names known (d ∷ ds) = (if has (Plain d.name) known || is_text names MATH.now d.name then d.span ∷ [] else []) ++ again names (with_name known (Plain d.name)) ds
 
 -- at each further declaration of a name in a scope, and at each of `Math`
-abbrev pub declared_twice : Texts → Scope → List Span
+abbrev pub declared_twice : Table → Scope → List Span
 declared_twice names s = again names [] s.declares
 
 -- ---- a name that is declared nowhere
 
--- a function of `Math`
-abbrev pub is_math : Texts → Name → Bool
-is_math names word = is_text names (codes "abs") word || is_text names (codes "min") word || is_text names (codes "max") word || is_text names (codes "floor") word || is_text names (codes "trunc") word
-
 -- a call of a name that may be declared nowhere
-abbrev pub calls_free : Texts → Role → Name → Bool
-calls_free names Called name = is_text names (codes "String") name || is_text names (codes "Boolean") name
-calls_free names (CalledMember word) name = (is_text names (codes "Math") name && is_math names word) || (is_text names (codes "console") name && is_text names (codes "log") word)
+abbrev pub calls_free : Table → Role → Name → Bool
+calls_free names Called name = is_one_of names conversions name
+calls_free names (CalledMember word) name = (is_text names MATH.now name && is_one_of names math_functions word) || (is_text names CONSOLE.now name && is_text names LOG.now word)
 calls_free names _ name = false
 
 -- whether a use of a name that isn't declared stands for nothing. Of store names nothing is asked here
-abbrev pub is_unbound : Texts → Role → Ref → Bool
+abbrev pub is_unbound : Table → Role → Ref → Bool
 is_unbound names role (Plain name) = not (calls_free names role name)
 is_unbound names role (Store name) = false
 
@@ -62,13 +58,13 @@ abbrev pub components : List Declared → List Ref
 components ds = names_of (filter (λ d. is_component d.by) ds)
 
 -- where some names are known and some of them are components': a tag wants a component's name, and nothing else may use one
-abbrev pub is_unknown : Texts → List Ref → List Ref → Use → Bool
+abbrev pub is_unknown : Table → List Ref → List Ref → Use → Bool
 is_unknown names known imported u =
     if is_tag u.role then not (has u.name imported)
     else (if has u.name known then has u.name imported else is_unbound names u.role u.name)
 
 -- at each name that no scope declares
-abbrev pub unknown_names : Texts → Scope → List Span
+abbrev pub unknown_names : Table → Scope → List Span
 unknown_names names top = map (name_place names) (filter (is_unknown names (names_of top.declares) (components top.declares)) top.uses)
 
 -- ---- an assignment to a constant
@@ -110,7 +106,7 @@ abbrev pub all_scopes : FileScopes → List Scope
 all_scopes f = f.inside ++ f.top ∷ []
 
 -- the mistakes, by kind: an arrow takes names of inner scopes along, and reads those of the top level when it runs
-abbrev pub mistakes : Texts → FileScopes → List CheckRefusal
+abbrev pub mistakes : Table → FileScopes → List CheckRefusal
 mistakes names f =
     refused DeclaredTwice (flat_map (declared_twice names) (all_scopes f)) ++ refused UnknownName (unknown_names names f.top)
     ++ refused AssignConst (flat_map constant_assigns (all_scopes f)) ++ refused CapturedAssign (flat_map captured_assigns f.inside)

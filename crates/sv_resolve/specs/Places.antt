@@ -1,9 +1,9 @@
--- The texts of names, and where names stand.
-use Rattle.std.specs.Prelude.{ℕ, ◌+◌, ◌-◌, min, Bool, false, List, length, slice_get}
+-- How wide names are, and where they stand.
+use Rattle.std.specs.Prelude.{ℕ, ◌+◌, ◌-◌, min, length, slice_get}
 use Rattle.std.specs.Option.{option_map_or}
-use Rattle.std.specs.Str.{bytes_eq}
 use Rattle.sv_ast.specs.declared.names.Ref.{Ref}
 use Rattle.sv_ast.specs.declared.names.Ref.TheVariants.{Plain, Store}
+use Rattle.sv_base.specs.Names.{Table}
 use Rattle.sv_base.specs.declared.names.Name.{Name}
 use Rattle.sv_base.specs.declared.span.Span.{Span}
 use Rattle.sv_scopes.specs.declared.words.Declared.{Declared}
@@ -11,16 +11,12 @@ use Rattle.sv_scopes.specs.declared.words.Form.{Form}
 use Rattle.sv_scopes.specs.declared.words.Form.TheVariants.{BumpedBefore}
 use Rattle.sv_scopes.specs.declared.words.Use.{Use}
 
--- whether a name of a table has some text
-abbrev pub is_text : List (List ℕ) → List ℕ → Name → Bool
-is_text names text name = option_map_or (λ found. bytes_eq found text) (slice_get names name.0) false
-
 -- how many bytes a name of a table has
-abbrev pub text_len : List (List ℕ) → Name → ℕ
+abbrev pub text_len : Table → Name → ℕ
 text_len names name = option_map_or length (slice_get names name.0) 0
 
 -- how many bytes it takes where it is used
-abbrev pub width : List (List ℕ) → Ref → ℕ
+abbrev pub width : Table → Ref → ℕ
 width names (Plain name) = text_len names name
 width names (Store name) = text_len names name + 1
 
@@ -37,9 +33,9 @@ place_by BumpedBefore count span = end count span
 place_by _ count span = front count span
 
 -- where the name of a use stands: at the end of `++x` and `--x`, and else at the front
-abbrev pub name_place : List (List ℕ) → Use → Span
+abbrev pub name_place : Table → Use → Span
 name_place names u = place_by u.form (width names u.name) u.span
 
 -- where a name that is declared stands: at the front of its declaration
-abbrev pub declaration_place : List (List ℕ) → Declared → Span
+abbrev pub declaration_place : Table → Declared → Span
 declaration_place names d = front (text_len names d.name) d.span

@@ -12,5 +12,5 @@ mod table;
 pub use calls::{first_mistake, resolve, resolve_module};
 pub use cells::{Scopes, is_store, is_variable, is_view, scopes_of};
 pub use earliest::offer;
-pub use places::{declaration_place, is_text, name_place};
+pub use places::{declaration_place, name_place};
 pub use refusals::{CheckError, CheckKind, CheckRefusal};

@@ -1,5 +1,5 @@
 // The mistakes of each kind in a scope.
-ghost use Rattle.std.specs.Prelude.{◌≡◌, [], ◌&&◌, filter, fold, map, codes, OnOk};
+ghost use Rattle.std.specs.Prelude.{◌≡◌, ◌&&◌, filter, fold, map, OnOk};
 ghost use Rattle.std.specs.List.{flat_map};
 ghost use Rattle.sv_names.specs.Distinct.{has};
 ghost use Rattle.sv_resolve.specs.declared.refusals.CheckKind.TheVariants as kind;
@@ -8,11 +8,12 @@ ghost use Rattle.sv_resolve.specs.Mistakes as spec;
 ghost use Rattle.sv_resolve.specs.Places as place;
 
 use crate::earliest::offer;
-use crate::places::{is_text, name_place};
+use crate::places::name_place;
 use crate::refusals::{CheckKind, CheckRefusal};
 use crate::table::{Table, assigns, captured_names, table_of};
 use std::alloc::Global;
 use sv_ast::Ref;
+use sv_base::built_in::{CONSOLE, CONVERSIONS, LOG, MATH, MATH_FUNCTIONS};
 use sv_base::{Name, Names, NoMemory};
 use sv_names::Distinct;
 use sv_scopes::{Role, Scope, Use};
@@ -42,9 +43,9 @@ pub(crate) fn find_twice_in(
     ensures { OnOk result (first.new ≡ fold earlier first.old (spec.refused kind.DeclaredTwice (spec.declared_twice names.now scope.now))) }
 {
     let mut known = Distinct::new(alloc);
-    for declared in scope.declares.as_slice() {
+    for declared in &scope.declares {
         let name = Ref::Plain(declared.name);
-        if known.has(name) || is_text(names, "Math", declared.name) {
+        if known.has(name) || names.is_text(declared.name, MATH) {
             offer(first, CheckKind::DeclaredTwice, declared.span);
         }
         known.add(name)?;
@@ -102,29 +103,13 @@ fn calls_free(names: &Names, role: Role, name: Name) -> bool
     ensures { result ≡ spec.calls_free names.now role name }
 {
     match role {
-        Role::Called => is_text(names, "String", name) || is_text(names, "Boolean", name),
+        Role::Called => names.is_one_of(name, &CONVERSIONS),
         Role::CalledMember(word) => {
-            calls_math(names, name, word)
-                || (is_text(names, "console", name) && is_text(names, "log", word))
+            (names.is_text(name, MATH) && names.is_one_of(word, &MATH_FUNCTIONS))
+                || (names.is_text(name, CONSOLE) && names.is_text(word, LOG))
         }
         Role::Alone | Role::Tag => false,
     }
-}
-
-fn calls_math(names: &Names, name: Name, word: Name) -> bool
-    ensures { result ≡ (place.is_text names.now (codes "Math") name && spec.is_math names.now word) }
-{
-    is_text(names, "Math", name) && is_math(names, word)
-}
-
-fn is_math(names: &Names, word: Name) -> bool
-    ensures { result ≡ spec.is_math names.now word }
-{
-    is_text(names, "abs", word)
-        || is_text(names, "min", word)
-        || is_text(names, "max", word)
-        || is_text(names, "floor", word)
-        || is_text(names, "trunc", word)
 }
 
 /// Looks for assignments to constants of scopes.

@@ -1,20 +1,10 @@
-// The texts of names, and where names stand.
+// How wide names are, and where they stand.
 ghost use Rattle.std.specs.Prelude.{◌≡◌, ◌<◌, ◌^◌};
 ghost use Rattle.sv_resolve.specs.Places as spec;
 
 use sv_ast::Ref;
 use sv_base::{Name, Names, Span};
 use sv_scopes::{Declared, Form, Use};
-
-/// Whether a name has some text.
-pub fn is_text(names: &Names, text: &str, name: Name) -> bool
-    ensures { result ≡ spec.is_text names.now text.now name }
-{
-    match names.text(name) {
-        Some(found) => found == text,
-        None => false,
-    }
-}
 
 fn text_len(names: &Names, name: Name) -> usize
     ensures len { result ≡ spec.text_len names.now name }

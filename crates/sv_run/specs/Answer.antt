@@ -3,6 +3,7 @@ use Rattle.std.specs.Prelude.{◌≡◌, ℕ, ◌<◌, ◌≤◌, List, ◌∷�
 use Rattle.sv_ast.specs.declared.files.Bundle.{Bundle}
 use Rattle.sv_ast.specs.declared.files.SourceFile.{SourceFile}
 use Rattle.sv_ast.specs.declared.refusals.Kind.TheVariants as kind
+use Rattle.sv_base.specs.declared.limits.TheConstants.{FILE_LIMIT, EVENTS_FILE_LIMIT}
 use Rattle.sv_check.specs.declared.checked.CheckedComponent.{CheckedComponent}
 use Rattle.sv_check.specs.Checked.{IsFirstMistake, IsClean, AreChecked}
 use Rattle.sv_compile.specs.Compile.{program}
@@ -51,11 +52,11 @@ IsFound files name limit Holds (holding x) = (bytes : List ℕ) × HasFile files
 
 -- what the root file is
 abbrev pub IsProgram : Files → List ℕ → Found Form → Type 0
-IsProgram files root found = IsFound files root 1048576 Spells found
+IsProgram files root found = IsFound files root FILE_LIMIT Spells found
 
 -- what the events file is
 abbrev pub AreEvents : Files → List ℕ → Found (List (List ℕ)) → Type 0
-AreEvents files file found = IsFound files file 16777216 Clicks found
+AreEvents files file found = IsFound files file EVENTS_FILE_LIMIT Clicks found
 
 -- what a run answers
 pub data Answer : Type 0 where

@@ -1,5 +1,6 @@
 -- The answer that a job gives.
 use Rattle.std.specs.Prelude.{◌≤◌, length, string_bytes, ⊤}
+use Rattle.sv_base.specs.declared.limits.TheConstants.{EVENT_LIMIT}
 use Rattle.sv_run.specs.Answer.{Answer, usage, missing, source, source_at, events, turns, accepted, listed, Fault, too_long, not_built}
 use Rattle.sv_counter.specs.Counter.{form_of}
 use Rattle.sv_counter.specs.Form.{IsForm}
@@ -26,11 +27,11 @@ abbrev pub answer_of : Job → Answer
 answer_of (jobs.Refuse refusal) = refusal_of refusal
 answer_of (jobs.Play counter ids) = turns (form_of counter) (bytes_of ids.items)
 answer_of jobs.Accept = accepted
-answer_of (jobs.List text) = listed (string_bytes text)
+answer_of (jobs.List text) = listed text.items
 
 -- what is played is a counter and few enough events
 abbrev pub IsPlayable : Job → Type 0
 IsPlayable (jobs.Refuse refusal) = ⊤
 IsPlayable jobs.Accept = ⊤
 IsPlayable (jobs.List text) = ⊤
-IsPlayable (jobs.Play counter ids) = IsForm (form_of counter) × (length (bytes_of ids.items) ≤ 100000)
+IsPlayable (jobs.Play counter ids) = IsForm (form_of counter) × (length (bytes_of ids.items) ≤ EVENT_LIMIT)

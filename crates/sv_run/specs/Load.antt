@@ -1,6 +1,7 @@
 -- What became of a file that was asked for.
 use Rattle.std.specs.Prelude.{ℕ, List, Vec, String, ◌≤◌, length, ⊤}
 use Rattle.std.specs.declared.alloc.Global.{Global}
+use Rattle.sv_base.specs.declared.limits.TheConstants.{EVENT_LIMIT}
 use Rattle.sv_run.specs.Answer.{Found, nothing, refused, holding}
 use Rattle.sv_counter.specs.Counter.{form_of}
 use Rattle.sv_counter.specs.Form.{Form, IsForm}
@@ -28,6 +29,6 @@ IsCounter Missing = ⊤
 IsCounter (Refused fault) = ⊤
 
 abbrev pub AreFewEvents : Loaded (Vec (String Global) Global) → Type 0
-AreFewEvents (Read ids) = length (bytes_of ids.items) ≤ 100000
+AreFewEvents (Read ids) = length (bytes_of ids.items) ≤ EVENT_LIMIT
 AreFewEvents Missing = ⊤
 AreFewEvents (Refused fault) = ⊤

@@ -12,9 +12,9 @@ ghost use Rattle.sv_load.specs.declared.refusals.LoadError.TheVariants as LoadEr
 
 use crate::job::{Job, Refusal};
 use crate::kinds::{check_word, parse_word};
-use std::alloc::{AllocError, Global};
+use std::alloc::Global;
 use sv_ast::{Bundle, Kind};
-use sv_base::Text;
+use sv_base::{NoMemory, Text};
 use sv_check::{Checked, check};
 use sv_compile::compile;
 use sv_io::{Shelf, ShelfError};
@@ -128,7 +128,7 @@ fn no_tree(file: String, kind: Kind, line: usize, column: usize) -> Refusal
 }
 
 // The refusal of a program with a mistake.
-fn refused(alloc: Global, bundle: &Bundle, mistake: &CheckRefusal) -> Result<Refusal, AllocError>
+fn refused(alloc: Global, bundle: &Bundle, mistake: &CheckRefusal) -> Result<Refusal, NoMemory>
     requires there { mistake.now.at.file < length bundle.now.files }
     requires lines { LinesAscend bundle.now.files }
     ensures { IfOk result (λ refusal. (file : AnySource) → slice_get bundle.now.files mistake.now.at.file ≡ Some file → refusal_of refusal ≡ mistake_answer file mistake.now) }
@@ -143,8 +143,8 @@ fn refused(alloc: Global, bundle: &Bundle, mistake: &CheckRefusal) -> Result<Ref
     })
 }
 
-fn copied(alloc: Global, name: &Text) -> Result<String, AllocError>
+fn copied(alloc: Global, name: &Text) -> Result<String, NoMemory>
     ensures { IfOk result (λ text. string_bytes text ≡ name.now) }
 {
-    String::from_str(alloc, name.as_str())
+    Ok(String::from_str(alloc, name.as_str())?)
 }

@@ -47,8 +47,8 @@ pub enum Job {
     Play(Counter, Vec<String>),
     /// Say that the program is accepted.
     Accept,
-    /// Print this listing of the program.
-    List(String),
+    /// Print this listing of the program, in UTF-8.
+    List(Vec<u8>),
 }
 
 const USAGE: &str =

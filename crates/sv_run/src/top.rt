@@ -89,7 +89,7 @@ fn answer<K: Sink>(alloc: Global, job: &Job, out: &mut K) -> Result<Status, Sink
             Ok(Status::Ok)
         }
         Job::List(text) => {
-            write_all(out, text.as_bytes())?;
+            write_all(out, text.as_slice())?;
             Ok(Status::Ok)
         }
     }

@@ -55,16 +55,14 @@ impl Found {
     pub(crate) fn note(&mut self, found: Use) -> Result<(), NoMemory>
         ensures { OnOk result (Finds self.old self.new (using_name found)) }
     {
-        self.uses.push(found)?;
-        Ok(())
+        self.uses.push(found)
     }
 
     /// Notes that a name is declared.
     pub(crate) fn declare(&mut self, name: Declared) -> Result<(), NoMemory>
         ensures { OnOk result (Finds self.old self.new (declaring (name ∷ []))) }
     {
-        self.declares.push(name)?;
-        Ok(())
+        self.declares.push(name)
     }
 
     /// Opens a scope.
@@ -149,7 +147,7 @@ impl Found {
         let uses = mem::replace(&mut self.uses, around.uses);
         self.declares = around.declares;
         hand_on_others(&mut self.uses, uses.as_slice(), &content.own, false)?;
-        append(&mut content.uses, uses.as_slice())
+        content.uses.extend_from_slice(uses.as_slice())
     }
 
     /// Closes the default content of a component.
@@ -165,16 +163,6 @@ impl Found {
         self.scopes.push(Scope { declares, uses })?;
         Ok(())
     }
-}
-
-// Puts uses behind others.
-fn append(uses: &mut Items<Use>, more: &[Use]) -> Result<(), NoMemory>
-    ensures { OnOk result (uses.new ≡ uses.old ++ more.now) }
-{
-    for found in more {
-        uses.push(*found)?;
-    }
-    Ok(())
 }
 
 // The names that are declared.

@@ -3,6 +3,7 @@ use Rattle.std.specs.Prelude.{ℕ, Bool, not, ◌-◌, ◌&&◌, ◌||◌, ◌==
 use Rattle.std.specs.Char.{is_ascii_alphanumeric}
 use Rattle.std.specs.List.{list_any}
 use Rattle.std.specs.Str.{bytes_eq}
+use Rattle.sv_base.specs.declared.built_in.TheConstants.{LIFE_MODULE, STORE_MODULE}
 
 -- no ASCII letter, digit, `_` or `-`
 abbrev pub is_other_byte : ℕ → Bool
@@ -23,4 +24,4 @@ is_path ending z = bytes_eq (take 2 z) (codes "./") && has_ending ending (drop 2
 unfoldable pub is_source : Bool → List ℕ → Bool
 is_source is_whole z =
     if is_whole then is_path (codes ".svelte") z
-    else (bytes_eq z (codes "svelte") || bytes_eq z (codes "svelte/store") || is_path (codes ".js") z)
+    else (bytes_eq z LIFE_MODULE.now || bytes_eq z STORE_MODULE.now || is_path (codes ".js") z)

@@ -11,7 +11,8 @@ use crate::place::Place;
 use crate::statements::Statements;
 use std::alloc::Global;
 use sv_ast::{Arm, Arms, Expr, Kind, ParseError, Stmt, StmtKind, Stmts};
-use sv_expr::{Form, LINK_LIMIT};
+use sv_base::LINK_LIMIT;
+use sv_expr::Form;
 use sv_lex::{Lexeme, Tokens};
 use sv_list::Items;
 

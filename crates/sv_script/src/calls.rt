@@ -8,8 +8,7 @@ ghost use Rattle.sv_script.specs.Script as spec;
 use crate::knot::{component, expression, file_module};
 use std::alloc::Global;
 use sv_ast::{Expr, ParseError, Script};
-use sv_base::{Names, TEXT_LIMIT};
-use sv_expr::NEST_LIMIT;
+use sv_base::{NEST_LIMIT, Names, TEXT_LIMIT};
 use sv_lex::Tokens;
 
 // The statements of a component's script that begins at `from`.
@@ -84,9 +83,9 @@ pub fn parse_expr_in(
 ) -> Result<(Expr, u32), ParseError>
     requires range { from ≤ length bytes.now }
     requires short { length bytes.now < TEXT_LIMIT }
-    requires room { «open» ≤ 32 }
-    ensures tree { AnswersPlace (32 - «open») (input_of file (drop from bytes.now) from names.old) result names.new }
-    ensures refusal { RefusesAs (spec.expression real (32 - «open») (input_of file (drop from bytes.now) from names.old)) result }
+    requires room { «open» ≤ NEST_LIMIT }
+    ensures tree { AnswersPlace (NEST_LIMIT - «open») (input_of file (drop from bytes.now) from names.old) result names.new }
+    ensures refusal { RefusesAs (spec.expression real (NEST_LIMIT - «open») (input_of file (drop from bytes.now) from names.old)) result }
 {
     let mut tokens = Tokens::new(alloc, names, file, &bytes[from as usize..], from);
     let tree = expression(alloc, &mut tokens, NEST_LIMIT - open as usize)?;
@@ -111,8 +110,8 @@ pub fn parse_expr(
 ) -> Result<(Expr, u32), ParseError>
     requires range { from ≤ length bytes.now }
     requires short { length bytes.now < TEXT_LIMIT }
-    ensures tree { AnswersPlace 32 (input_of file (drop from bytes.now) from names.old) result names.new }
-    ensures refusal { RefusesAs (spec.expression real 32 (input_of file (drop from bytes.now) from names.old)) result }
+    ensures tree { AnswersPlace NEST_LIMIT (input_of file (drop from bytes.now) from names.old) result names.new }
+    ensures refusal { RefusesAs (spec.expression real NEST_LIMIT (input_of file (drop from bytes.now) from names.old)) result }
 {
     parse_expr_in(alloc, names, file, bytes, from, 0)
 }

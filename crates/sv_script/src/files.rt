@@ -4,6 +4,7 @@ ghost use Rattle.std.specs.List.{list_any};
 ghost use Rattle.sv_script.specs.Files as spec;
 
 use crate::words::same_text;
+use sv_base::built_in::{LIFE_MODULE, STORE_MODULE};
 
 fn is_other_byte(b: u8) -> bool
     ensures { result ≡ spec.is_other_byte b }
@@ -50,5 +51,5 @@ pub fn is_source(is_whole: bool, text: &str) -> bool
     if is_whole {
         return is_path(".svelte", z);
     }
-    same_text(z, b"svelte") || same_text(z, b"svelte/store") || is_path(".js", z)
+    text == LIFE_MODULE || text == STORE_MODULE || is_path(".js", z)
 }

@@ -11,7 +11,8 @@ use crate::statements::{Scripted, Statements};
 use std::alloc::Global;
 use std::marker::PhantomData;
 use sv_ast::{Expr, Kind, ParseError, Stmt, Stmts};
-use sv_expr::{Form, Grammar, NEST_LIMIT};
+use sv_base::NEST_LIMIT;
+use sv_expr::{Form, Grammar};
 use sv_lex::{Lexeme, Tokens};
 
 // An expression in a construct, where so many may still enclose one another.
@@ -149,7 +150,7 @@ pub fn component(alloc: Global, tokens: &mut Tokens<'_>) -> Result<Stmts, ParseE
     ensures { Reads (spec.component real tokens.old) result tokens.new }
 {
     let item = |tokens: &mut Tokens<'_>| -> Result<Stmt, ParseError>
-        ensures { Reads (spec.component_item real 32 (bodies real 32) tokens.old) result tokens.new }
+        ensures { Reads (spec.component_item real NEST_LIMIT (bodies real NEST_LIMIT) tokens.old) result tokens.new }
     { component_item(alloc, tokens, NEST_LIMIT) };
     upto(alloc, tokens, Lexeme::End, item)
 }
@@ -160,7 +161,7 @@ pub fn file_module(alloc: Global, tokens: &mut Tokens<'_>) -> Result<Stmts, Pars
     ensures { Reads (spec.file_module real tokens.old) result tokens.new }
 {
     let item = |tokens: &mut Tokens<'_>| -> Result<Stmt, ParseError>
-        ensures { Reads (spec.module_item real 32 (bodies real 32) tokens.old) result tokens.new }
+        ensures { Reads (spec.module_item real NEST_LIMIT (bodies real NEST_LIMIT) tokens.old) result tokens.new }
     { module_item(alloc, tokens, NEST_LIMIT) };
     upto(alloc, tokens, Lexeme::End, item)
 }

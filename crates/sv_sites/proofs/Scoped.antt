@@ -3,13 +3,13 @@ use Rattle.std.proofs.Common.{◌≡◌, true, false, cond, List, [], ◌∷◌,
 use Rattle.std.specs.Prelude.{ℕ, is_some}
 use Rattle.sv_ast.specs.declared.markup_tree.TagAttr.{TagAttr}
 use Rattle.sv_ast.specs.declared.names.Ref.{Ref}
+use Rattle.sv_base.specs.Names.{Table}
 use Rattle.sv_base.specs.declared.names.Name.{Name}
 use Rattle.sv_names.specs.Distinct.{firsts}
 use Rattle.sv_scopes.specs.Attributes.{is_slotted, lets}
 use Rattle.sv_scopes.specs.Parts.{names_of}
 use Rattle.sv_sites.specs.declared.site.Site.{Site}
 use Rattle.sv_sites.specs.declared.site.Site.TheVariants as site
-use Rattle.sv_sites.specs.Words.{Table}
 use Rattle.sv_sites.specs.Sites.{InScope, Node, here, both, within, tag, slot_tag, component, component_tag, content, content_node}
 
 -- ---- sites behind others

@@ -12,7 +12,7 @@ use Rattle.sv_ast.specs.declared.markup_tree.TagAttr.{TagAttr}
 use Rattle.sv_ast.specs.declared.names.Ref.{Ref}
 use Rattle.sv_base.specs.declared.names.Name.{Name}
 use Rattle.sv_base.specs.declared.span.Span.{Span}
-use Rattle.sv_base.specs.Names.{with_text}
+use Rattle.sv_base.specs.Names.{with_text, Table}
 use Rattle.sv_names.specs.Distinct.{firsts}
 use Rattle.sv_scopes.specs.Attributes.{is_slotted, lets}
 use Rattle.sv_scopes.specs.Parts.{names_of}
@@ -20,7 +20,7 @@ use Rattle.sv_scopes.specs.Rows.{row_names}
 use Rattle.sv_sites.specs.declared.site.Site.{Site}
 use Rattle.sv_sites.specs.declared.site.Site.TheVariants as site
 use Rattle.sv_sites.specs.Attributes.{slot_of, bound_target}
-use Rattle.sv_sites.specs.Words.{Table, is_blank, input_type, may_bind}
+use Rattle.sv_sites.specs.Words.{is_blank, input_type, may_bind}
 
 -- the sites of a part of markup, which was read with a table of names, by the names that are hidden there
 abbrev pub InScope : Type 0

@@ -9,12 +9,8 @@ use Rattle.sv_ast.specs.declared.markup_tree.AttrPart.TheVariants.{Text, Show}
 use Rattle.sv_ast.specs.declared.markup_tree.AttrValue.{AttrValue}
 use Rattle.sv_ast.specs.declared.markup_tree.AttrValue.TheVariants as value
 use Rattle.sv_ast.specs.declared.markup_tree.TagAttr.{TagAttr}
+use Rattle.sv_base.specs.Names.{Table, is_text}
 use Rattle.sv_base.specs.declared.names.Name.{Name}
-use Rattle.sv_resolve.specs.Places.{is_text}
-
--- a table of names, as the list of their texts
-abbrev pub Table : Type 0
-Table = List (List ℕ)
 
 -- ---- literal text
 

@@ -64,8 +64,7 @@ fn add_content(
         slot: Text::new(alloc, slot)?,
         again,
         at,
-    })?;
-    Ok(())
+    })
 }
 
 /// Whether a slot is one of some.

@@ -41,14 +41,11 @@ fn add_element_attr(
     ensures { OnOk result (sites.new ≡ sites.old ++ spec.element_site names.now name.now kind.now (all_hidden hidden.now) attr.now attr.now.kind) }
 {
     match attr.kind {
-        AttrKind::Bind => {
-            sites.push(Site::Bind {
-                fits: may_bind(names, name, kind, attr.name),
-                target: target(hidden, attr),
-                at: attr.span,
-            })?;
-            Ok(())
-        }
+        AttrKind::Bind => sites.push(Site::Bind {
+            fits: may_bind(names, name, kind, attr.name),
+            target: target(hidden, attr),
+            at: attr.span,
+        }),
         AttrKind::Plain | AttrKind::On | AttrKind::Class | AttrKind::Let | AttrKind::Slot => Ok(()),
     }
 }
@@ -79,23 +76,17 @@ fn add_component_attr(
     ensures { OnOk result (sites.new ≡ sites.old ++ spec.component_site of (all_hidden hidden.now) attr.now attr.now.kind) }
 {
     match attr.kind {
-        AttrKind::Plain => {
-            sites.push(Site::Prop {
-                of,
-                name: attr.name,
-                at: attr.span,
-            })?;
-            Ok(())
-        }
-        AttrKind::Bind => {
-            sites.push(Site::PropBind {
-                of,
-                name: attr.name,
-                target: target(hidden, attr),
-                at: attr.span,
-            })?;
-            Ok(())
-        }
+        AttrKind::Plain => sites.push(Site::Prop {
+            of,
+            name: attr.name,
+            at: attr.span,
+        }),
+        AttrKind::Bind => sites.push(Site::PropBind {
+            of,
+            name: attr.name,
+            target: target(hidden, attr),
+            at: attr.span,
+        }),
         AttrKind::On | AttrKind::Class | AttrKind::Let | AttrKind::Slot => Ok(()),
     }
 }

@@ -4,7 +4,6 @@ ghost use Rattle.sv_sites.specs.Words as spec;
 
 use sv_ast::{AttrKind, AttrPart, AttrParts, AttrValue, TagAttr};
 use sv_base::{Name, Names};
-use sv_resolve::is_text;
 
 /// The literal text of an attribute's value, which is its only part: empty where it has none.
 pub(crate) fn literal(value: &AttrValue) -> &str
@@ -49,7 +48,7 @@ pub(crate) fn input_type<'a>(names: &Names, attrs: &'a [TagAttr]) -> &'a str
     ensures { result.now ≡ spec.input_type names.now attrs.now }
 {
     for attr in attrs {
-        if is_plain(attr.kind) && is_text(names, "type", attr.name) {
+        if is_plain(attr.kind) && names.is_text(attr.name, "type") {
             return literal(&attr.value);
         }
     }
@@ -73,6 +72,6 @@ pub(crate) fn may_bind(names: &Names, element: &str, kind: &str, name: Name) -> 
     ensures { result ≡ spec.may_bind names.now element.now kind.now name }
 {
     element == "input"
-        && ((is_text(names, "value", name) && !is_checked_kind(kind))
-            || (is_text(names, "checked", name) && is_checkbox(kind)))
+        && ((names.is_text(name, "value") && !is_checked_kind(kind))
+            || (names.is_text(name, "checked") && is_checkbox(kind)))
 }

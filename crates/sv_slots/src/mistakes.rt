@@ -22,7 +22,7 @@ pub fn unknown_props(alloc: Global, all: &[Sheet], own: &Sheet) -> Result<Items<
     ensures { IfOk result (λ places. places ≡ prop_spec.unknown_props all.now own.now) }
 {
     let mut places = Items::new(alloc);
-    for site in own.sites.as_slice() {
+    for site in &own.sites {
         add_prop(&mut places, all, own, site)?;
     }
     Ok(places)
@@ -49,7 +49,7 @@ pub fn unknown_slots(alloc: Global, all: &[Sheet], own: &Sheet) -> Result<Items<
     ensures { IfOk result (λ places. places ≡ slot_spec.unknown_slots all.now own.now) }
 {
     let mut places = Items::new(alloc);
-    for site in own.sites.as_slice() {
+    for site in &own.sites {
         add_content(&mut places, all, own, site)?;
     }
     Ok(places)
@@ -90,7 +90,7 @@ pub fn bad_binds(
     ensures { IfOk result (λ places. places ≡ bind_spec.bad_binds variables.now all.now own.now) }
 {
     let mut places = Items::new(alloc);
-    for site in own.sites.as_slice() {
+    for site in &own.sites {
         add_bind(&mut places, variables, all, own, site)?;
     }
     Ok(places)

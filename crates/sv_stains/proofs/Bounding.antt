@@ -18,7 +18,7 @@ use Rattle.sv_ast.specs.declared.script_tree.StmtKind.{StmtKind-F, out-StmtKind}
 use Rattle.sv_base.specs.declared.names.Name.{Name}
 use Rattle.sv_names.specs.Distinct.{same_ref}
 use Rattle.sv_names.specs.Uses.{named}
-use Rattle.sv_purity.specs.Calls.{Table}
+use Rattle.sv_base.specs.Names.{Table}
 use Rattle.sv_stains.specs.declared.functions.Function.{Function}
 use Rattle.sv_stains.specs.Functions.{Layer, StmtLayer, statements_of, arrow_layer, value_functions, decl_functions, stmt_layer, stmt_functions, file_functions, functions_from, functions}
 use Rattle.sv_stains.specs.Known.{Points, point_in, with_point, with_points, names_from, is_of, own, stmts_at, module_at, with_local, given_name, import_layer, stmt_imported, all_given, known}

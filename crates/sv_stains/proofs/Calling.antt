@@ -4,7 +4,7 @@ use Rattle.sv_ast.specs.declared.names.Ref.{Ref}
 use Rattle.sv_ast.specs.declared.script_tree.Expr.{Expr}
 use Rattle.sv_ast.specs.declared.script_tree.ExprKind
 use Rattle.sv_ast.specs.declared.script_tree.ExprKind.{ExprKind as AnyExpr, ExprKind-F, fold-roll-ExprKind}
-use Rattle.sv_purity.specs.Calls.{Table}
+use Rattle.sv_base.specs.Names.{Table}
 use Rattle.sv_stains.specs.declared.notes.Sign.{Sign}
 use Rattle.sv_stains.specs.Signs.{Found, Asked, Part, place, own_signs, arguments, body, entry, expr_kind, field, stmt_kind, arm, decl, expr, link, stmt, asked, kind_asked}
 

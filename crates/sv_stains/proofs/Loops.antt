@@ -8,7 +8,7 @@ use Rattle.sv_ast.specs.declared.script_tree.StmtKind
 use Rattle.sv_ast.specs.declared.script_tree.StmtKind.{StmtKind as AnyStmt, StmtKind-F, fold-roll-StmtKind}
 use Rattle.sv_names.specs.Distinct.{with_names}
 use Rattle.sv_names.specs.Uses.{named}
-use Rattle.sv_purity.specs.Calls.{Table}
+use Rattle.sv_base.specs.Names.{Table}
 use Rattle.sv_stains.specs.declared.notes.Sign.{Sign}
 use Rattle.sv_stains.specs.Signs.{Found, Asked, Part, place, optional, given, followed, for_head, body, entry, expr_kind, field, stmt_kind, arm, decl, expr, link, stmt, asked, stmt_part, stmt_kind_part}
 

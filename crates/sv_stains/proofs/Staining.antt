@@ -15,7 +15,7 @@ use Rattle.sv_ast.specs.declared.names.Ref.TheVariants.{Plain, Store}
 use Rattle.sv_ast.specs.declared.script_tree.Stmt.{Stmt}
 use Rattle.sv_names.specs.Distinct.{has, firsts}
 use Rattle.sv_names.proofs.Same.{has-firsts}
-use Rattle.sv_purity.specs.Calls.{Table}
+use Rattle.sv_base.specs.Names.{Table}
 use Rattle.sv_stains.specs.declared.functions.Function.{Function}
 use Rattle.sv_stains.specs.declared.notes.Sign.{Sign}
 use Rattle.sv_stains.specs.declared.notes.Sign.TheVariants.{Reads, Sets, Calls, Hands, Breaks}
@@ -25,7 +25,7 @@ use Rattle.sv_stains.specs.Calls.{is_stain_in, points_from, calls_in, AreCalls}
 use Rattle.sv_stains.specs.Functions.{statements_of, functions}
 use Rattle.sv_stains.specs.Known.{Points, point_in, known, stmts_at}
 use Rattle.sv_stains.specs.Stains.{is_stain, is_stained, called, calls}
-use Rattle.sv_stains.specs.Top.{IsTop, is_built_in, is_variable, is_variable_in, is_free_call, is_free_in, variables, reactives, declared}
+use Rattle.sv_stains.specs.Top.{IsTop, is_conversion, is_variable, is_variable_in, is_free_call, is_free_in, variables, reactives, declared}
 use Rattle.sv_stains.proofs.Bounding.{SomeBelow, point_below, functions_in}
 use Rattle.sv_visits.specs.Links.{is_in, links_of, AddsLinks, IsTurned}
 use Rattle.sv_visits.proofs.Points.{in_left, in_right, in_parts, in_cons}
@@ -44,8 +44,8 @@ variable_same stmts top name t =
 
 free_same : (table : Table) (stmts : List Stmt) (top : Top) (name : Ref) → IsTop stmts top → is_free_in table top name ≡ is_free_call table stmts name
 free_same table stmts top name t =
-    ap (λ b. is_built_in table name && (not b && not (has name top.reactives))) (top_has name top.declared (declared stmts) t.declared_is)
-    ∙ ap (λ b. is_built_in table name && (not (has name (declared stmts)) && not b)) (top_has name top.reactives (reactives stmts) t.reactives_is)
+    ap (λ b. is_conversion table name && (not b && not (has name top.reactives))) (top_has name top.declared (declared stmts) t.declared_is)
+    ∙ ap (λ b. is_conversion table name && (not (has name (declared stmts)) && not b)) (top_has name top.reactives (reactives stmts) t.reactives_is)
 
 stain_same : (bundle : Bundle) (file : ℕ) (top : Top) (s : Sign) → IsTop (stmts_at bundle.files file) top → is_stain_in bundle.names top (known bundle file) s ≡ is_stain bundle file s
 stain_same bundle file top (Reads (Store name)) t = refl

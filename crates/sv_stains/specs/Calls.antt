@@ -3,7 +3,7 @@ use Rattle.std.specs.Prelude.{◌≡◌, ℕ, suc, ◌||◌, not, Bool, true, Li
 use Rattle.std.specs.List.{filter_map}
 use Rattle.sv_ast.specs.declared.files.Bundle.{Bundle}
 use Rattle.sv_ast.specs.declared.names.Ref.TheVariants.{Plain, Store}
-use Rattle.sv_purity.specs.Calls.{Table}
+use Rattle.sv_base.specs.Names.{Table}
 use Rattle.sv_stains.specs.declared.functions.Function.{Function}
 use Rattle.sv_stains.specs.declared.notes.Sign.{Sign}
 use Rattle.sv_stains.specs.declared.notes.Sign.TheVariants.{Reads, Sets, Calls, Hands, Breaks}

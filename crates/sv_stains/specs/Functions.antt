@@ -17,7 +17,7 @@ use Rattle.sv_ast.specs.declared.script_tree.Link.{Link}
 use Rattle.sv_ast.specs.declared.script_tree.Stmt.{Stmt}
 use Rattle.sv_ast.specs.declared.script_tree.StmtKind.{StmtKind, StmtKind-F, out-StmtKind}
 use Rattle.sv_base.specs.declared.names.Name.{Name}
-use Rattle.sv_purity.specs.Calls.{Table}
+use Rattle.sv_base.specs.Names.{Table}
 use Rattle.sv_stains.specs.declared.functions.Function.{Function}
 use Rattle.sv_stains.specs.Signs.{function_signs, arrow_signs}
 

@@ -1,7 +1,10 @@
 -- What the body of a function does that may keep the function from being pure: the names that it reads and assigns, what it calls, and
 -- the calls that nothing makes pure. The bodies of arrows and functions that it only makes count as its own. Names that a scope in
 -- it declares are its own and no signs (ECMA-262, 9.1 and 14.2: a declaration is bound in its block).
-use Rattle.std.specs.Prelude.{Bool, true, false, ◌&&◌, List, [], ◌∷◌, ◌++◌, Option, None, Some, map, codes, if◌then◌else◌}
+use Rattle.std.specs.Prelude.{Bool, true, false, ◌&&◌, List, [], ◌∷◌, ◌++◌, Option, None, Some, map, if◌then◌else◌}
+use Rattle.sv_base.specs.BuiltIn.{list_calls, value_calls, math_functions}
+use Rattle.sv_base.specs.Names.{Table, is_text, is_one_of}
+use Rattle.sv_base.specs.declared.built_in.TheConstants.{MATH}
 use Rattle.sv_base.specs.declared.names.Name.{Name}
 use Rattle.sv_ast.specs.declared.names.Ref.{Ref}
 use Rattle.sv_ast.specs.declared.names.Ref.TheVariants.{Plain}
@@ -17,7 +20,6 @@ use Rattle.sv_ast.specs.declared.script_tree.Stmt.{Stmt, Stmt-F, fold-Stmt}
 use Rattle.sv_ast.specs.declared.script_tree.StmtKind.{StmtKind, StmtKind-F, fold-StmtKind}
 use Rattle.sv_names.specs.Distinct.{has, with_names}
 use Rattle.sv_names.specs.Uses.{named, imported}
-use Rattle.sv_purity.specs.Calls.{Table, list_calls, value_calls, math_calls, is_among}
 use Rattle.sv_stains.specs.declared.notes.Sign.{Sign}
 use Rattle.sv_stains.specs.declared.notes.Sign.TheVariants.{Reads, Sets, Calls, Hands, Breaks}
 
@@ -101,7 +103,7 @@ sets name at = set_signs at.handed name at.locals
 
 -- the name `Math`
 abbrev pub is_math : Form → Table → Bool
-is_math (Named (Plain name)) table = is_among (codes "Math" ∷ []) table name
+is_math (Named (Plain name)) table = is_text table MATH.now name
 is_math _ table = false
 
 -- what is handed to a call on a list as its function; the body of an arrow counts as the rest does
@@ -117,9 +119,9 @@ hands_first (first ∷ more) locals = hands first locals
 -- the call of a member is one on a list or a text, or one of `Math`
 abbrev pub calls_member : Form → Name → List Form → Table → List Ref → List Sign
 calls_member of word args table locals =
-    if is_among value_calls table word then []
-    else if is_among list_calls table word then hands_first args locals
-    else if is_math of table && is_among math_calls table word then []
+    if is_one_of table value_calls word then []
+    else if is_one_of table list_calls word then hands_first args locals
+    else if is_math of table && is_one_of table math_functions word then []
     else Breaks ∷ []
 
 -- a call itself, beside what is found in its parts
@@ -133,7 +135,7 @@ itself of args at = own_signs of args at.table at.locals
 
 -- whether what has this form takes an arrow that it calls
 abbrev pub takes_function : Form → Table → Bool
-takes_function (MemberOf of word) table = is_among list_calls table word
+takes_function (MemberOf of word) table = is_one_of table list_calls word
 takes_function _ table = false
 
 -- the first argument of a call on a list: the body of an arrow is evaluated

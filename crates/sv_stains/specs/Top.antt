@@ -1,5 +1,5 @@
 -- What the top level of a file declares.
-use Rattle.std.specs.Prelude.{◌≡◌, Bool, not, ◌&&◌, ◌||◌, List, [], ◌∷◌, map, codes, false}
+use Rattle.std.specs.Prelude.{◌≡◌, Bool, not, ◌&&◌, ◌||◌, List, [], ◌∷◌, map, false}
 use Rattle.std.specs.List.{flat_map}
 use Rattle.sv_ast.specs.declared.names.Ref.{Ref}
 use Rattle.sv_ast.specs.declared.names.Ref.TheVariants.{Plain, Store}
@@ -10,7 +10,8 @@ use Rattle.sv_ast.specs.declared.script_tree.Stmt.{Stmt}
 use Rattle.sv_ast.specs.declared.script_tree.StmtKind.{StmtKind-F, out-StmtKind}
 use Rattle.sv_names.specs.Distinct.{has, with_names}
 use Rattle.sv_names.specs.Uses.{named}
-use Rattle.sv_purity.specs.Calls.{Table, is_among}
+use Rattle.sv_base.specs.BuiltIn.{conversions}
+use Rattle.sv_base.specs.Names.{Table, is_one_of}
 use Rattle.sv_stains.specs.declared.top.Top.{Top}
 use Rattle.sv_stains.specs.Functions.{Layer, StmtLayer}
 use Rattle.sv_stains.specs.Signs.{stmt_part}
@@ -59,13 +60,13 @@ abbrev pub is_variable : List Stmt → Ref → Bool
 is_variable stmts name = has name (variables stmts) || (has name (reactives stmts) && not (has name (declared stmts)))
 
 -- a name is `String` or `Boolean`
-abbrev pub is_built_in : Table → Ref → Bool
-is_built_in table (Plain name) = is_among (codes "String" ∷ codes "Boolean" ∷ []) table name
-is_built_in table (Store name) = false
+abbrev pub is_conversion : Table → Ref → Bool
+is_conversion table (Plain name) = is_one_of table conversions name
+is_conversion table (Store name) = false
 
 -- the name is such a one, and the file doesn't declare it anew
 abbrev pub is_free_call : Table → List Stmt → Ref → Bool
-is_free_call table stmts name = is_built_in table name && (not (has name (declared stmts)) && not (has name (reactives stmts)))
+is_free_call table stmts name = is_conversion table name && (not (has name (declared stmts)) && not (has name (reactives stmts)))
 
 -- ---- tables of these names
 
@@ -78,4 +79,4 @@ abbrev pub is_variable_in : Top → Ref → Bool
 is_variable_in top name = has name top.variables || (has name top.reactives && not (has name top.declared))
 
 abbrev pub is_free_in : Table → Top → Ref → Bool
-is_free_in table top name = is_built_in table name && (not (has name top.declared) && not (has name top.reactives))
+is_free_in table top name = is_conversion table name && (not (has name top.declared) && not (has name top.reactives))

@@ -21,7 +21,8 @@ use sv_visits::reached;
 /// stained body, which may be its own. A body calls what it calls by name and what it hands to a call on a list as its function, in
 /// arrows and functions inside it too. It is stained where it reads a variable of its component (by `let`, `export let` or
 /// `$: x = e`) or a store `$x`, assigns a name that it doesn't declare itself, or has a call that wouldn't be pure even if each function
-/// that is known there were, as that of `console.log`.
+/// that is known there were, as that of `console.log`. `String` and `Boolean` may be called where the file doesn't declare them: a body that
+/// hands them on is stained.
 ///
 /// The rule is this project's own: a part of a page is evaluated again where a variable that it names has changed, so a call that
 /// reads another one would leave it as it was.

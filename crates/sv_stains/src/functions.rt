@@ -72,8 +72,7 @@ fn add_stmt(
                 name: name.name,
                 exported: *exported,
                 signs,
-            })?;
-            Ok(())
+            })
         }
         StmtKind::Const { decls, exported } => {
             add_decls(alloc, functions, names, file, *exported, decls.as_slice())
@@ -119,8 +118,7 @@ fn add_decl(
                 name: decl.name.name,
                 exported,
                 signs,
-            })?;
-            Ok(())
+            })
         }
         _ => Ok(()),
     }

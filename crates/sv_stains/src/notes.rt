@@ -47,8 +47,7 @@ pub(crate) fn note(walk: &mut Walk, sign: Sign) -> Result<(), NoMemory>
     ensures locals { OnOk result (walk.new.locals ≡ walk.old.locals) }
     ensures signs { OnOk result (walk.new.signs ≡ walk.old.signs ++ sign ∷ []) }
 {
-    walk.signs.push(sign)?;
-    Ok(())
+    walk.signs.push(sign)
 }
 
 // Notes a sign of a name that isn't the body's own.

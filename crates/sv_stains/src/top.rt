@@ -7,6 +7,7 @@ ghost use Rattle.sv_stains.specs.Top as spec;
 use crate::locals::declare_stmts;
 use std::alloc::Global;
 use sv_ast::{AssignOp, Decl, ExprKind, Ref, Stmt, StmtKind};
+use sv_base::built_in::CONVERSIONS;
 use sv_base::{Names, NoMemory};
 use sv_names::Distinct;
 
@@ -42,19 +43,16 @@ impl Top {
     pub(crate) fn is_free_call(&self, names: &Names, name: Ref) -> bool
         ensures { result ≡ spec.is_free_in names.now self.now name }
     {
-        is_built_in(names, name) && !self.declared.has(name) && !self.reactives.has(name)
+        is_conversion(names, name) && !self.declared.has(name) && !self.reactives.has(name)
     }
 }
 
-fn is_built_in(names: &Names, name: Ref) -> bool
-    ensures { result ≡ spec.is_built_in names.now name }
+fn is_conversion(names: &Names, name: Ref) -> bool
+    ensures { result ≡ spec.is_conversion names.now name }
 {
-    let Ref::Plain(name) = name else {
-        return false;
-    };
-    match names.text(name) {
-        Some(text) => text == "String" || text == "Boolean",
-        None => false,
+    match name {
+        Ref::Plain(name) => names.is_one_of(name, &CONVERSIONS),
+        Ref::Store(_) => false,
     }
 }
 

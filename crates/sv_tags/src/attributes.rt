@@ -9,11 +9,11 @@ use crate::directives::{Tag, filling, given_name, kind_of, misplaced, misvalued,
 use crate::holes::{Filling, opened};
 use crate::modifiers::{modifiers, no_modifiers};
 use crate::values::{alone, directive_value, value};
-use std::alloc::{AllocError, Global};
+use std::alloc::Global;
 use sv_ast::{
     AttrKind, AttrPart, AttrValue, Expr, ExprKind, Kind, Named, ParseError, Ref, TagAttr,
 };
-use sv_base::Span;
+use sv_base::{NoMemory, Span};
 use sv_lex::{Lexeme, Source, Tokens, byte};
 
 // The attribute, unless something is wrong with it.
@@ -43,7 +43,7 @@ fn ascii_name(tokens: &mut Tokens<'_>) -> Result<Named, ParseError>
 }
 
 // The attribute of a name, whose value reads the name.
-fn short(alloc: Global, span: Span, found: Named) -> Result<TagAttr, AllocError>
+fn short(alloc: Global, span: Span, found: Named) -> Result<TagAttr, NoMemory>
     ensures { IfOk result (λ made. made ≡ spec.short span found) }
 {
     let read = Expr::new(alloc, found.span, ExprKind::Read(Ref::Plain(found.name)))?;

@@ -6,7 +6,7 @@ ghost use Rattle.sv_tags.specs.Values as spec;
 
 use crate::holes::{Filling, Hole, braces};
 use crate::texts::{Quote, Setting, closing, text};
-use std::alloc::{AllocError, Global};
+use std::alloc::Global;
 use sv_ast::{AttrPart, AttrParts, AttrValue, Kind, ParseError};
 use sv_base::{NoMemory, Text};
 use sv_lex::{Source, byte};
@@ -41,7 +41,7 @@ pub(crate) fn literal(alloc: Global, value: &AttrValue) -> Result<Option<Text>, 
 }
 
 /// A value of one part.
-pub(crate) fn alone(alloc: Global, part: AttrPart) -> Result<AttrValue, AllocError>
+pub(crate) fn alone(alloc: Global, part: AttrPart) -> Result<AttrValue, NoMemory>
     ensures { IfOk result (λ value. value ≡ AttrValue.Parts (part ∷ [])) }
 {
     let mut parts = Items::new(alloc);

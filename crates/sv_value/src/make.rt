@@ -8,9 +8,9 @@ ghost use Rattle.sv_value.specs.Making.{Makes};
 
 use crate::fault::ValueFault;
 use crate::value::{Func, Inst, List, Obj, Value};
-use std::alloc::{AllocError, Global};
+use std::alloc::Global;
 use std::collections::BTreeMap;
-use sv_base::{Text, VALUE_SIZE_LIMIT};
+use sv_base::{NoMemory, Text, VALUE_SIZE_LIMIT};
 
 /// The text `s`; `Large` exactly where it has [`VALUE_SIZE_LIMIT`] bytes or more.
 pub fn make_text(alloc: Global, s: &str) -> Result<Value, ValueFault>
@@ -44,7 +44,8 @@ pub fn make_obj(alloc: Global, fields: Vec<(Text, Value)>) -> Result<Value, Valu
     Ok(Value::Obj(object))
 }
 
-/// A function with this code, owner and captured values; `Deep` and `Large` as for a list.
+/// A function with this code, the owner's number and these captured values; `Deep` and `Large` as for a list. The owner's key is kept
+/// with them as a hint that no clause promises.
 pub fn make_func(
     alloc: Global,
     code: u32,
@@ -58,7 +59,7 @@ pub fn make_func(
 }
 
 // The fields in the order of their keys, of which the last of equal keys stays.
-fn in_key_order(alloc: Global, pairs: Vec<(Text, Value)>) -> Result<Vec<(Text, Value)>, AllocError>
+fn in_key_order(alloc: Global, pairs: Vec<(Text, Value)>) -> Result<Vec<(Text, Value)>, NoMemory>
     ensures value { IfOk result (λ v. fields (map entry_of v.items) ≡ written bare (map entry_of pairs.items)) }
     ensures ordered { IfOk result (λ v. IsOrdered (fields (map entry_of v.items))) }
 {
@@ -66,15 +67,11 @@ fn in_key_order(alloc: Global, pairs: Vec<(Text, Value)>) -> Result<Vec<(Text, V
     for (key, value) in pairs {
         write_field(&mut by_key, key, value)?;
     }
-    by_key.into_iter().collect(alloc)
+    Ok(by_key.into_iter().collect(alloc)?)
 }
 
 // Writes a field at its place in the order of keys, or over the one with this key.
-fn write_field(
-    by_key: &mut BTreeMap<Text, Value>,
-    key: Text,
-    value: Value,
-) -> Result<(), AllocError>
+fn write_field(by_key: &mut BTreeMap<Text, Value>, key: Text, value: Value) -> Result<(), NoMemory>
     ensures { OnOk result (by_key.new.entries ≡ insert_entry key_order by_key.old.entries key value) }
 {
     by_key.insert(key, value)?;

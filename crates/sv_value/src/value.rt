@@ -14,8 +14,8 @@ use std::marker::Model;
 use std::rc::Rc;
 use sv_base::{NoMemory, Num, Text, VALUE_DEPTH_LIMIT, VALUE_SIZE_LIMIT};
 
-/// An instance of a component: the key under which it is kept, and its number, which no other instance ever has. A
-/// module's code has the owner with number 0.
+/// An instance of a component: its number, which no other instance ever has, and the key under which it may be kept. The key is
+/// a hint that no clause promises: who finds an instance by it compares the number. A module's code has the owner with number 0.
 #[derive(Clone, Copy, PartialEq, Eq, Debug)]
 pub struct Inst {
     pub key: u32,
@@ -211,7 +211,8 @@ impl Func {
         self.code
     }
 
-    /// The instance whose cells the code reads.
+    /// The instance whose cells the code reads. Its number is the owner's of the function's tree; its key is a hint that no clause
+    /// promises.
     pub fn owner(&self) -> Inst
         ensures { result ≡ self.now.owner }
     {

@@ -6,30 +6,23 @@
 ghost use Rattle.std.specs.Prelude.{◌≡◌};
 ghost use Rattle.svp.specs.Status.{code_of};
 
-#[cfg(test)]
-mod check_tests;
-#[cfg(test)]
-mod print_tests;
-#[cfg(test)]
-mod tests;
-
-use std::alloc::AllocError;
 use std::io::ErrorKind;
 use std::process::ExitCode;
 use std::{env, io};
+use sv_base::NoMemory;
 use sv_io::{DirShelf, StdSink};
 use sv_run::{Status, run};
 
 // The words of the command line, or none where one of them isn't text, since no form has such a word.
-fn words_of(rt: &HostRuntime) -> Result<Vec<String>, AllocError> {
+fn words_of(rt: &HostRuntime) -> Result<Vec<String>, NoMemory> {
     match env::args(rt) {
-        Ok(args) => args.skip(1).collect(rt.alloc()),
-        Err(error) if error.kind() == ErrorKind::OutOfMemory => Err(AllocError),
+        Ok(args) => Ok(args.skip(1).collect(rt.alloc())?),
+        Err(error) if error.kind() == ErrorKind::OutOfMemory => Err(NoMemory),
         Err(_) => Ok(Vec::new(rt.alloc())),
     }
 }
 
-fn status_of(rt: &HostRuntime) -> Result<Status, AllocError> {
+fn status_of(rt: &HostRuntime) -> Result<Status, NoMemory> {
     let words = words_of(rt)?;
     let mut shelf = DirShelf::new(rt.clone()?);
     let mut out = StdSink::new(rt.clone()?);

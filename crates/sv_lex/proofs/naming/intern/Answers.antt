@@ -1,5 +1,6 @@
 use Rattle.std.proofs.Common.{◌≡◌, ◌≢◌, ◌+◌, length, refl, sym, ◌∙◌, arith, length-append}
 use Rattle.sv_base.specs.Names.{number_of}
+use Rattle.sv_base.specs.declared.limits.TheConstants.{NAME_LIMIT}
 use Rattle.sv_lex.proofs.Joined.{number_of-front, number_of-back, number_of-le, IsTable-with_text}
 use Rattle.sv_lex.proofs.naming.intern.Goals as goal
 
@@ -26,5 +27,5 @@ pub returns-clause-table : goal.returns-clause-table
 returns-clause-table c =
     let none : number_of c.args.text.now c.args.known.now ≡ length c.args.known.now = c.in_default.ensures.none.0 refl in
     let count = c.len-count.ensures.count in let more = c.len.ensures.count in
-    let room : length c.args.known.now + length c.args.added.now ≢ 4294967295 = λ full. c.if-count-len-eq-NAME_LIMIT.false (omega arith) in
+    let room : length c.args.known.now + length c.args.added.now ≢ NAME_LIMIT = λ full. c.if-count-len-eq-NAME_LIMIT.false (omega arith) in
     IsTable-with_text c.args.text.now c.args.known.now c.args.added.now c.intern.new.self c.requires none room c.in_ok-number.ensures.table

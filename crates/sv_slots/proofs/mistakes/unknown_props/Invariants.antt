@@ -1,7 +1,8 @@
-use Rattle.std.proofs.Common.{◌≡◌, ◌++◌, drop}
+use Rattle.std.proofs.Common.{◌≡◌, ◌++◌}
 use Rattle.std.specs.List.{flat_map}
+use Rattle.std.specs.Slice.Iter.{iter_rest}
 use Rattle.sv_slots.specs.Props.{wrong_prop}
 use Rattle.sv_slots.proofs.mistakes.unknown_props.Given as goal
 
 abbrev pub invariant-loop-site : goal.invariant-loop-site
-invariant-loop-site l = flat_map (wrong_prop l.all l.own) l.site-items ≡ l.places ++ flat_map (wrong_prop l.all l.own) (drop l.site-index l.site-items)
+invariant-loop-site l = flat_map (wrong_prop l.all l.own) l.own.sites ≡ l.places ++ flat_map (wrong_prop l.all l.own) (iter_rest l.site-iterator)

@@ -1,5 +1,4 @@
-use Rattle.std.proofs.Common.{rules, ◌≡◌, IfOk}
-use Rattle.std.proofs.lemmas.Result.{IfOk-weaker}
+use Rattle.std.proofs.Common.{rules, ◌≡◌}
 use Rattle.sv_value.proofs.Pairs.{written_more, ordered_from_keys}
 use Rattle.sv_value.proofs.make.in_key_order.Goals as goal
 
@@ -8,5 +7,5 @@ loop-key-preserved c = rw c.in_ok-write_field.ensures (written_more c.loop-key.b
 
 pub returns-clause-ordered : goal.returns-clause-ordered
 returns-clause-ordered c =
-    let all : IfOk c.collect.result (λ v. v.items ≡ c.loop-key.by_key.entries) = search rules in
-    IfOk-weaker c.collect.result _ _ (λ v same. rw same (ordered_from_keys _ c.into_iter.ensures.into_iter_gives.5)) all
+    let same : c.in_ok-collect.field-0.items ≡ c.loop-key.by_key.entries = search rules in
+    rw same (ordered_from_keys _ c.into_iter.ensures.into_iter_gives.5)
