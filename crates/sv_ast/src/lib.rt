@@ -9,8 +9,6 @@ mod names;
 mod operators;
 mod refusals;
 mod script_tree;
-#[cfg(test)]
-mod tests;
 
 pub use files::{Bundle, Component, FileTree, Files, LineStarts, Module, Script, SourceFile};
 pub use markup_tree::{

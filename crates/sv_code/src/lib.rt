@@ -10,8 +10,6 @@ mod fragments;
 mod functions;
 mod parts;
 mod program;
-#[cfg(test)]
-mod tests;
 
 pub use code::{
     Code, CodeField, CodeFields, CodeItem, CodeItems, CodeKind, CodeLink, CodeLinks, Codes,

@@ -6,8 +6,6 @@ mod memory;
 mod shelf;
 mod sink;
 mod system;
-#[cfg(test)]
-mod tests;
 
 pub use memory::{MemShelf, MemSink};
 pub use shelf::{Got, Shelf, ShelfError};

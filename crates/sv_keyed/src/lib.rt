@@ -4,8 +4,6 @@
 mod arrange;
 mod places;
 mod step;
-#[cfg(test)]
-mod tests;
 
 pub use arrange::moves;
 pub use step::{KeyRefusal, KeyStep};

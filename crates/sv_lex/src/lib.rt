@@ -15,8 +15,6 @@ mod pieces;
 mod signs;
 mod source;
 mod strings;
-#[cfg(test)]
-mod tests;
 mod token;
 mod words;
 

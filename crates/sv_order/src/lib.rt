@@ -5,8 +5,6 @@ mod links;
 mod names;
 mod reads;
 mod sorting;
-#[cfg(test)]
-mod tests;
 
 pub use reads::{OrderError, Reads};
 pub use sorting::order;

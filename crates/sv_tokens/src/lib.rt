@@ -4,8 +4,6 @@
 
 mod change;
 mod element;
-#[cfg(test)]
-mod tests;
 
 pub use change::{Change, What};
 pub use element::{Attr, Attribute, Typed};

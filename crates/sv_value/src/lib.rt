@@ -6,8 +6,6 @@ mod fault;
 mod key;
 mod make;
 mod measure;
-#[cfg(test)]
-mod tests;
 mod value;
 mod words;
 

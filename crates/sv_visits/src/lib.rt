@@ -7,8 +7,6 @@ mod groups;
 mod marks;
 mod outcome;
 mod reach;
-#[cfg(test)]
-mod tests;
 mod turn;
 mod walk;
 

@@ -4,7 +4,5 @@
 mod join;
 mod pieces;
 mod strip;
-#[cfg(test)]
-mod tests;
 
 pub use pieces::{Piece, kept};

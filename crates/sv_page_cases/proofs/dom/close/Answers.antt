@@ -1,5 +1,0 @@
-use Rattle.sv_tokens.proofs.Standing.{opens-Edits}
-use Rattle.sv_page_cases.proofs.dom.close.Goals as goal
-
-pub returns : goal.returns
-returns c = opens-Edits _ _ _ _ _ _ c.drop_attr.ensures c.requires.stands

@@ -1,5 +1,0 @@
-use Rattle.sv_tokens.proofs.Children.{opens-stands}
-use Rattle.sv_page_cases.proofs.dom.removes.Goals as goal
-
-pub remove-requires-clause-stands : goal.remove-requires-clause-stands
-remove-requires-clause-stands c = opens-stands _ _ c.requires.stands

@@ -1,5 +1,0 @@
-use Rattle.sv_tokens.proofs.Standing.{opens-Edits}
-use Rattle.sv_page_cases.proofs.pages.give.Goals as goal
-
-pub returns : goal.returns
-returns c = λ key has. opens-Edits _ _ _ key _ _ c.in_ok-told.ensures.edit has
