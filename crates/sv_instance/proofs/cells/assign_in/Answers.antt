@@ -1,0 +1,10 @@
+use Rattle.sv_value.specs.View.{view_of}
+use Rattle.sv_instance.specs.Cells.{assigned_cell}
+use Rattle.sv_instance.proofs.Slotting.{now-set, seen-set}
+use Rattle.sv_instance.proofs.cells.assign_in.Goals as goal
+
+pub returns-then-at-slots-clause-now : goal.returns-then-at-slots-clause-now
+returns-then-at-slots-clause-now c = now-set (λ cell. assigned_cell cell (view_of c.args.value)) c.args.slots.now c.args.at c.index-slots-at.result c.assign_slot.new.slot c.if-at-slots.true c.assign_slot.ensures.now
+
+pub returns-then-at-slots-clause-seen : goal.returns-then-at-slots-clause-seen
+returns-then-at-slots-clause-seen c = seen-set c.args.has_shown c.args.slots.now c.args.at c.index-slots-at.result c.assign_slot.new.slot c.if-at-slots.true c.assign_slot.ensures.seen

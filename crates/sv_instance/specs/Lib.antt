@@ -1,0 +1,14 @@
+pub mod Cells
+pub mod Slots
+pub mod Dirty
+pub mod Standing
+pub mod Place
+pub mod Bound
+pub mod Binds
+pub mod Subscriptions
+pub mod CallbackLists
+pub mod Callbacks
+pub mod Contexts
+pub mod Given
+pub mod Setup
+pub mod Instance

@@ -1,0 +1,13 @@
+pub mod Leaving
+pub mod Altering
+pub mod Ready
+pub mod Going
+pub mod Telling
+pub mod Times
+pub mod Ending
+pub mod Subscribing
+pub mod Later
+pub mod Calm
+pub mod Dirt
+pub mod Sounding
+pub mod Keeping

@@ -1,0 +1,266 @@
+-- What holds at every moment, after each change.
+use Rattle.std.proofs.Common.{◌≡◌, ◌≢◌, ℕ, zero, suc, List, [], ◌∷◌, ◌++◌, length, Option, Some, None, refl, sym, ap, ◌∙◌, arith, Bool, true, false, cond, slice_set, is_some, nat_eq, ⊎_elim, inl, subst}
+use Rattle.std.specs.Prelude.{not, ◌&&◌, ◌||◌}
+use Rattle.std.specs.List.{list_any, filter}
+use Rattle.std.proofs.lemmas.Bool.{cases_eq, cases_lt, cases_Bool, and_parts, not-true, eqb-true, eqb-false, eq-eqb, ne_eqb, true≢false}
+use Rattle.std.proofs.Math.Bool.{or-false, and_comm}
+use Rattle.std.proofs.lemmas.List.Folds.{list_any-append}
+use Rattle.std.proofs.lemmas.List.{get_or_append_left, get_or_push, get_or_past, length_push, get_or-set_same, get_or-set_other, set_past}
+use Rattle.sv_value.specs.Value.{Val}
+use Rattle.sv_view.specs.Cell.{Cell}
+use Rattle.sv_view.specs.Level.{View}
+use Rattle.sv_numbered.specs.Numbered.{at, altered}
+use Rattle.sv_store.specs.Stores.{Store, Subscriber, same_subscriber, made, subscribers_at, value_at, changed_at, with_subscriber, is_subscribed, subscribed, is_other, dropped}
+use Rattle.sv_instance.specs.Cells as cells
+use Rattle.sv_instance.specs.Bound.{Bound}
+use Rattle.sv_instance.specs.declared.instance.Instance.{Instance}
+use Rattle.sv_instance.specs.declared.setup.Setup.{Setup}
+use Rattle.sv_states.specs.States.{States, live, with_instance, has_cell, value_in}
+use Rattle.sv_states.specs.Waiting.{is_waiting, has_shown, enqueued, without, times, shown, snapped}
+use Rattle.sv_states.specs.Assignment.{Way, sent, sent_if, with_bound, bound_up, way_of, taken}
+use Rattle.sv_states.specs.Change.{with_setup, added, removed, declared, with_view, viewed, with_store, given, with_subscription, subscribed_over, subscribed_to}
+use Rattle.sv_states.specs.Prepared.{IsNew}
+use Rattle.sv_states.specs.Sound.{IsLater, IsSeen, is_to, has_subscription, is_subscriber, IsSound}
+use Rattle.sv_states.proofs.Altering.{at-altered_same, at-altered_none, at-altered_other, option_cases}
+use Rattle.sv_states.proofs.Later.{seen-touched, seen-declared, seen-snapped, now-declared}
+use Rattle.sv_states.proofs.Times.{without-absent, times-without_same, times-without_other}
+use Rattle.sv_states.proofs.Calm.{each_altered, calm_of, calm-altered, calm-enqueued, calm-taken, calm-written}
+use Rattle.sv_states.proofs.Dirt.{IsWaiter, wait-enqueued, wait-altered, wait-taken, wait-written, sound_of, waiters_of}
+
+pub sound-enqueued : (s : States) (n : ℕ) → IsSound s → IsSound (enqueued s n)
+sound-enqueued s n k = sound_of (enqueued s n) (calm-enqueued s n (calm_of s k)) (wait-enqueued (λ _. ⊥) s n (λ m free. waiters_of s k m (λ e. free (inl e))))
+
+pub sound-sent : (s : States) (w : Way) (v : Val) → IsSound s → IsSound (sent w v s)
+sound-sent s w v k = sound_of (sent w v s) (calm-written w.cells w.store v s (calm_of s k)) (wait-written w.cells w.store v (λ _. ⊥) s (waiters_of s k))
+
+pub sound-taken : (s : States) (p : Subscriber) (v : Val) → IsSound s → IsSound (taken s p v)
+sound-taken s p v k = sound_of (taken s p v) (calm-taken s p v (calm_of s k)) (wait-taken (λ _. ⊥) s p v (waiters_of s k))
+
+-- an instance whose cells, subscriptions and place in the queue stay
+pub sound-inert : (f : Instance → Instance) (s : States) (n : ℕ) → ((i : Instance) → (f i).cells ≡ i.cells) → ((i : Instance) → (f i).queued ≡ i.queued) → ((i : Instance) → (f i).subscriptions ≡ i.subscriptions)
+    → IsSound s → IsSound (with_instance f s n)
+sound-inert f s n cells' idle subscriptions k = sound_of (with_instance f s n)
+    (calm-altered f s n (calm_of s k) (λ i p old is c. subst (λ x. IsLater (cells.cell_at old c) (cells.cell_at x.now c)) (sym (cells' i)) (p old (sym (ap (λ x. x.seen) (cells' i)) ∙ is) c)) idle (λ i. ap (λ x. is_some x.seen) (cells' i)) subscriptions)
+    (λ m free. each_altered (λ _ o. IsWaiter o) f s.lives n (λ j. waiters_of s k j (λ e. e)) (λ i _ p c h. idle i ∙ p c (sym (ap (λ x. is_some x.seen && cells.is_dirty x c) (cells' i)) ∙ h)) m)
+
+pub sound-setup : (s : States) (n : ℕ) (setup : Setup) → IsSound s → IsSound (with_setup s n setup)
+sound-setup s n setup k = sound-inert (λ i. record i { setup = setup }) s n (λ i. refl) (λ i. refl) (λ i. refl) k
+
+sound-sent_if : (o : Option Val) (w : Way) (s : States) → IsSound s → IsSound (sent_if o w s)
+sound-sent_if None w s k = k
+sound-sent_if (Some v) w s k = sound-sent s w v k
+
+pub sound-bound : (s : States) (n : ℕ) (b : Bound) → IsSound s → IsSound (bound_up s n b)
+sound-bound s n b k = sound-sent_if (value_in (live s n) b.cell) (way_of s b.owner b.target) (with_instance (with_bound b) s n) (sound-inert (with_bound b) s n (λ i. refl) (λ i. refl) (λ i. refl) k)
+
+pub sound-viewed : (s : States) (n c : ℕ) (view : View) → IsSound s → IsSound (viewed s n c view)
+sound-viewed s n c view k = ⊎_elim (λ b. rw b there) (λ b. rw b k) (cases_Bool (has_cell (live s n) c))
+  where
+    there : IsSound (enqueued (with_instance (with_view c view) s n) n)
+    there = sound_of (enqueued (with_instance (with_view c view) s n) n)
+        (calm-enqueued (with_instance (with_view c view) s n) n (calm-altered (with_view c view) s n (calm_of s k) (λ i p. seen-touched i.cells c p) (λ i. refl) (λ i. refl) (λ i. refl)))
+        (wait-enqueued (λ _. ⊥) (with_instance (with_view c view) s n) n (wait-altered (λ _. ⊥) (with_view c view) s n (waiters_of s k)))
+
+-- a declaration is no change
+waiter-declared : (i : Instance) (c : ℕ) (v : Val) → IsWaiter (Some i) → IsWaiter (Some (record i { cells = cells.declared i.cells c v }))
+waiter-declared i c v p d h = p d (lemma i.cells.seen refl h)
+  where
+    lemma : (o : Option (List (Option Cell))) → i.cells.seen ≡ o → (is_some i.cells.seen && cells.is_dirty (cells.declared i.cells c v) d) ≡ true → (is_some i.cells.seen && cells.is_dirty i.cells d) ≡ true
+    lemma None e g = absurd (true≢false (sym g ∙ ap (λ x. is_some x && cells.is_dirty_since x (cells.declared i.cells c v).now d) e))
+    lemma (Some old) e g = ap (λ l. is_some i.cells.seen && cells.is_dirty_since i.cells.seen l d) (sym (now-declared i.cells c v old e)) ∙ g
+
+pub sound-declared : (s : States) (p : Subscriber) (v : Val) → IsSound s → IsSound (declared s p v)
+sound-declared s p v k =
+    let f : Instance → Instance = λ i. record i { cells = cells.declared i.cells p.cell v } in
+    sound_of (declared s p v)
+    (calm-altered f s p.inst (calm_of s k) (λ i q. seen-declared i.cells p.cell v q) (λ i. refl) (λ i. refl) (λ i. refl))
+    (λ m free. each_altered (λ _ o. IsWaiter o) f s.lives p.inst (λ j. waiters_of s k j (λ e. e)) (λ i _ q. waiter-declared i p.cell v q) m)
+
+-- a snapshot makes all cells clean
+waiter-shown : (i : Instance) → IsWaiter (Some (shown i))
+waiter-shown i c h = absurd (true≢false (sym h ∙ ap not (eq-eqb (cells.count_at i.cells.now c) (cells.count_at i.cells.now c) refl)))
+
+pub sound-snapped : (s : States) (n : ℕ) → IsSound s → IsSound (snapped s n)
+sound-snapped s n k = record {
+  seen = each_altered (λ _ o. IsSeen o) shown s.lives n k.seen (λ i _ _. seen-snapped i.cells);
+  queued = left;
+  shown = each_altered (λ _ o. is_waiting o ≡ true → has_shown o ≡ true) shown s.lives n k.shown (λ i _ _ _. refl);
+  dirty = λ m c h. each_altered (λ _ o. IsWaiter o) shown s.lives n (λ j. waiters_of s k j (λ e. e)) (λ i _ _. waiter-shown i) m c h;
+  subscribed = each_altered (λ m o. (c id : ℕ) → is_subscriber s m c id ≡ has_subscription o c id) shown s.lives n k.subscribed (λ i _ p. p);
+}
+  where
+    gone : times (without s.queue n) n ≡ 0
+    gone = ⊎_elim
+        (λ b. let one : times s.queue n ≡ 1 = k.queued n ∙ ap (λ w. cond w 1 0) b in let e = times-without_same s.queue n (omega (arith, one)) in omega (arith, e, one))
+        (λ b. let z : times s.queue n ≡ 0 = k.queued n ∙ ap (λ w. cond w 1 0) b in ap (λ q. times q n) (without-absent s.queue n z) ∙ z)
+        (cases_Bool (is_waiting (live s n)))
+
+    left : (m : ℕ) → times (without s.queue n) m ≡ cond (is_waiting (at (altered shown s.lives n) m)) 1 0
+    left m = ⊎_elim
+        (λ same. ap (times (without s.queue n)) same ∙ gone ∙ ⊎_elim
+        (λ none. sym (ap (λ o. cond (is_waiting o) 1 0) (ap (at (altered shown s.lives n)) same ∙ at-altered_none shown s.lives n none)))
+        (λ some. sym (ap (λ o. cond (is_waiting o) 1 0) (ap (at (altered shown s.lives n)) same ∙ at-altered_same shown s.lives n some.0 some.1)))
+        (option_cases (live s n)))
+        (λ other. times-without_other s.queue n m other ∙ k.queued m ∙ sym (ap (λ o. cond (is_waiting o) 1 0) (at-altered_other shown s.lives n m other)))
+        (cases_eq m n)
+
+subscribers-made : (stores : List Store) (v : Val) (id : ℕ) → subscribers_at (made stores v) id ≡ subscribers_at stores id
+subscribers-made [] v zero = refl
+subscribers-made [] v (suc id) = refl
+subscribers-made (x ∷ stores) v zero = refl
+subscribers-made (x ∷ stores) v (suc id) = subscribers-made stores v id
+
+pub sound-store : (s : States) (v : Val) → IsSound s → IsSound (with_store s v)
+sound-store s v k = record {
+  seen = k.seen;
+  queued = k.queued;
+  shown = k.shown;
+  dirty = k.dirty;
+  subscribed = λ n c id. ap (list_any (same_subscriber (record { inst = n; cell = c }))) (subscribers-made s.stores v id) ∙ k.subscribed n c id;
+}
+
+-- a fact of each instance, with one more, which has the place behind the last
+each_added : (P : ℕ → Option Instance → Type 0) (lives : List (Option Instance)) (i : Instance) → ((m : ℕ) → P m (at lives m)) → (P (length lives) None → P (length lives) (Some i)) → (m : ℕ) → P m (at (lives ++ Some i ∷ []) m)
+each_added P lives i all new m = ⊎_elim
+    (λ below. subst (P m) (sym (get_or_append_left lives (Some i ∷ []) None m below)) (all m))
+    (λ above. ⊎_elim
+    (λ same. subst (λ j. P j (at (lives ++ Some i ∷ []) j)) (sym same) (subst (P (length lives)) (sym (get_or_push lives (Some i) None (length lives) refl)) (new (subst (P (length lives)) (get_or_past lives (length lives) None (omega arith)) (all (length lives))))))
+    (λ other. let l = length_push lives (Some i) in let ne : m ≢ length lives = other in
+    subst (P m) (get_or_past lives m None above ∙ sym (get_or_past (lives ++ Some i ∷ []) m None (omega (arith, l)))) (all m))
+    (cases_eq m (length lives)))
+    (cases_lt m (length lives))
+
+pub sound-added : (s : States) (i : Instance) → IsNew i → IsSound s → IsSound (added s i)
+sound-added s i new k = record {
+  seen = each_added (λ _ o. IsSeen o) s.lives i k.seen (λ _ old is. absurd (let e = sym new.unshown ∙ is in cc));
+  queued = each_added (λ m o. times s.queue m ≡ cond (is_waiting o) 1 0) s.lives i k.queued (λ p. p ∙ ap (λ w. cond w 1 0) (sym new.idle));
+  shown = each_added (λ _ o. is_waiting o ≡ true → has_shown o ≡ true) s.lives i k.shown (λ _ w. absurd (true≢false (sym w ∙ new.idle)));
+  dirty = λ m c h. each_added (λ _ o. IsWaiter o) s.lives i (λ j. waiters_of s k j (λ e. e)) (λ _ d g. absurd (true≢false (sym g ∙ ap (λ x. is_some x && cells.is_dirty_since x i.cells.now d) new.unshown))) m c h;
+  subscribed = each_added (λ m o. (c id : ℕ) → is_subscriber s m c id ≡ has_subscription o c id) s.lives i k.subscribed (λ p c id. p c id ∙ sym (ap (list_any (is_to c id)) new.unsubscribed));
+}
+
+-- the subscribers of a store that are of other instances
+subscribers-dropped : (stores : List Store) (n id : ℕ) → subscribers_at (dropped stores n) id ≡ filter (is_other n) (subscribers_at stores id)
+subscribers-dropped [] n id = refl
+subscribers-dropped (x ∷ stores) n zero = refl
+subscribers-dropped (x ∷ stores) n (suc id) = subscribers-dropped stores n id
+
+any-gone : (n c : ℕ) (subscribers : List Subscriber) → list_any (same_subscriber (record { inst = n; cell = c })) (filter (is_other n) subscribers) ≡ false
+any-gone n c [] = refl
+any-gone n c (x ∷ subscribers) = ⊎_elim
+    (λ b. let o : is_other n x ≡ false = ap not (eq-eqb x.inst n (eqb-true x.inst n b)) in rw o (any-gone n c subscribers))
+    (λ b. let o : is_other n x ≡ true = ap not b in let z : nat_eq n x.inst ≡ false = ne_eqb n x.inst (λ e. eqb-false x.inst n b (sym e)) in rw (o, z) (any-gone n c subscribers))
+    (cases_Bool (nat_eq x.inst n))
+
+any-other : (n m c : ℕ) (subscribers : List Subscriber) → m ≢ n → list_any (same_subscriber (record { inst = m; cell = c })) (filter (is_other n) subscribers) ≡ list_any (same_subscriber (record { inst = m; cell = c })) subscribers
+any-other n m c [] h = refl
+any-other n m c (x ∷ subscribers) h = ⊎_elim
+    (λ b.
+    let o : is_other n x ≡ false = ap not b in
+    let z : nat_eq m x.inst ≡ false = ne_eqb m x.inst (λ e. h (e ∙ eqb-true x.inst n b)) in
+    rw (o, z) (any-other n m c subscribers h))
+    (λ b. let o : is_other n x ≡ true = ap not b in rw o (ap (λ r. same_subscriber (record { inst = m; cell = c }) x || r) (any-other n m c subscribers h)))
+    (cases_Bool (nat_eq x.inst n))
+
+-- a fact of each instance, without one
+each_gone : (P : ℕ → Option Instance → Type 0) (lives : List (Option Instance)) (n : ℕ) → ((m : ℕ) → m ≢ n → P m (at lives m)) → P n None → (m : ℕ) → P m (at (slice_set lives n None) m)
+each_gone P lives n all none m = ⊎_elim
+    (λ same. subst (λ j. P j (at (slice_set lives n None) j)) (sym same) (⊎_elim
+    (λ inside. subst (P n) (sym (get_or-set_same lives n None None inside)) none)
+    (λ past. subst (P n) (sym (ap (λ l. at l n) (set_past lives n None past) ∙ get_or_past lives n None past)) none)
+    (cases_lt n (length lives))))
+    (λ other. subst (P m) (sym (get_or-set_other lives n m None None other)) (all m other))
+    (cases_eq m n)
+
+pub sound-removed : (s : States) (n : ℕ) → IsSound s → IsSound (removed s n)
+sound-removed s n k = record {
+  seen = each_gone (λ _ o. IsSeen o) s.lives n (λ m _. k.seen m) tt;
+  queued = each_gone (λ m o. times (without s.queue n) m ≡ cond (is_waiting o) 1 0) s.lives n (λ m other. times-without_other s.queue n m other ∙ k.queued m) gone;
+  shown = each_gone (λ _ o. is_waiting o ≡ true → has_shown o ≡ true) s.lives n (λ m _. k.shown m) (λ h. h);
+  dirty = λ m c h. each_gone (λ _ o. IsWaiter o) s.lives n (λ j _. waiters_of s k j (λ e. e)) (λ _ g. g) m c h;
+  subscribed = each_gone (λ m o. (c id : ℕ) → is_subscriber (removed s n) m c id ≡ has_subscription o c id) s.lives n
+      (λ m other c id. ap (list_any (same_subscriber (record { inst = m; cell = c }))) (subscribers-dropped s.stores n id) ∙ any-other n m c (subscribers_at s.stores id) other ∙ k.subscribed m c id)
+      (λ c id. ap (list_any (same_subscriber (record { inst = n; cell = c }))) (subscribers-dropped s.stores n id) ∙ any-gone n c (subscribers_at s.stores id));
+}
+  where
+    gone : times (without s.queue n) n ≡ 0
+    gone = ⊎_elim
+        (λ b. let one : times s.queue n ≡ 1 = k.queued n ∙ ap (λ w. cond w 1 0) b in let e = times-without_same s.queue n (omega (arith, one)) in omega (arith, e, one))
+        (λ b. let z : times s.queue n ≡ 0 = k.queued n ∙ ap (λ w. cond w 1 0) b in ap (λ q. times q n) (without-absent s.queue n z) ∙ z)
+        (cases_Bool (is_waiting (live s n)))
+
+any_push : {A : Type 0} (f : A → Bool) (xs : List A) (x : A) → list_any f (xs ++ x ∷ []) ≡ (list_any f xs || f x)
+any_push f xs x = list_any-append f xs (x ∷ []) ∙ ap (λ b. list_any f xs || b) (or-false (f x))
+
+eqb-suc : (a b : ℕ) → nat_eq a b ≡ nat_eq (suc a) (suc b)
+eqb-suc a b = ⊎_elim (λ e. eq-eqb a b e ∙ sym (eq-eqb (suc a) (suc b) (ap suc e))) (λ h. ne_eqb a b h ∙ sym (ne_eqb (suc a) (suc b) (λ e. h (omega (arith, e))))) (cases_eq a b)
+
+-- who is among the subscribers of a store when a store has one more
+any-subscribed : (stores : List Store) (id other : ℕ) (p q : Subscriber) (v : Val) → value_at stores id ≡ Some v
+    → list_any (same_subscriber q) (subscribers_at (changed_at (with_subscriber p) stores id) other) ≡ (list_any (same_subscriber q) (subscribers_at stores other) || (nat_eq id other && same_subscriber q p))
+any-subscribed [] id other p q v there = absurd (let e = there in cc)
+any-subscribed (x ∷ stores) zero zero p q v there = any_push (same_subscriber q) x.subscribers p
+any-subscribed (x ∷ stores) zero (suc other) p q v there =
+    sym (or-false (list_any (same_subscriber q) (subscribers_at stores other))) ∙ ap (λ b. list_any (same_subscriber q) (subscribers_at stores other) || (b && same_subscriber q p)) (sym (ne_eqb 0 (suc other) (λ e. cc)))
+any-subscribed (x ∷ stores) (suc id) zero p q v there =
+    sym (or-false (list_any (same_subscriber q) x.subscribers)) ∙ ap (λ b. list_any (same_subscriber q) x.subscribers || (b && same_subscriber q p)) (sym (ne_eqb (suc id) 0 (λ e. cc)))
+any-subscribed (x ∷ stores) (suc id) (suc other) p q v there =
+    any-subscribed stores id other p q v there ∙ ap (λ b. list_any (same_subscriber q) (subscribers_at stores other) || (b && same_subscriber q p)) (eqb-suc id other)
+
+eqb-sym : (a b : ℕ) → nat_eq a b ≡ nat_eq b a
+eqb-sym a b = ⊎_elim (λ e. eq-eqb a b e ∙ sym (eq-eqb b a (sym e))) (λ h. ne_eqb a b h ∙ sym (ne_eqb b a (λ e. h (sym e)))) (cases_eq a b)
+
+module _ (s : States) (p : Subscriber) (id : ℕ) (v : Val) (i : Instance) (there : live s p.inst ≡ Some i) (value : value_at s.stores id ≡ Some v) (k : IsSound s) where
+  abbrev put : Instance → Instance
+  put = with_subscription (record { cell = p.cell; store = id })
+
+  abbrev stores : List Store
+  stores = changed_at (with_subscriber p) s.stores id
+
+  told-same : (c other : ℕ) → list_any (same_subscriber (record { inst = p.inst; cell = c })) (subscribers_at stores other) ≡ has_subscription (Some (put i)) c other
+  told-same c other =
+      any-subscribed s.stores id other p (record { inst = p.inst; cell = c }) v value
+      ∙ ap (λ b. b || (nat_eq id other && same_subscriber (record { inst = p.inst; cell = c }) p)) (k.subscribed p.inst c other ∙ ap (λ o. has_subscription o c other) there)
+      ∙ ap (λ b. list_any (is_to c other) i.subscriptions || (nat_eq id other && (b && nat_eq c p.cell))) (eq-eqb p.inst p.inst refl)
+      ∙ ap (λ b. list_any (is_to c other) i.subscriptions || (nat_eq id other && b)) (eqb-sym c p.cell)
+      ∙ ap (λ b. list_any (is_to c other) i.subscriptions || b) (and_comm (nat_eq id other) (nat_eq p.cell c))
+      ∙ sym (any_push (is_to c other) i.subscriptions (record { cell = p.cell; store = id }))
+
+  told-other : (m c other : ℕ) → m ≢ p.inst → list_any (same_subscriber (record { inst = m; cell = c })) (subscribers_at stores other) ≡ has_subscription (live s m) c other
+  told-other m c other h =
+      any-subscribed s.stores id other p (record { inst = m; cell = c }) v value
+      ∙ ap (λ b. list_any (same_subscriber (record { inst = m; cell = c })) (subscribers_at s.stores other) || (nat_eq id other && (b && nat_eq c p.cell))) (ne_eqb m p.inst h)
+      ∙ ap (λ b. list_any (same_subscriber (record { inst = m; cell = c })) (subscribers_at s.stores other) || b) (and_comm (nat_eq id other) false)
+      ∙ or-false (list_any (same_subscriber (record { inst = m; cell = c })) (subscribers_at s.stores other))
+      ∙ k.subscribed m c other
+
+  sound-put : IsSound (record s { lives = altered put s.lives p.inst; stores = stores })
+  sound-put = record {
+    seen = each_altered (λ _ o. IsSeen o) put s.lives p.inst k.seen (λ _ _ q. q);
+    queued = each_altered (λ m o. times s.queue m ≡ cond (is_waiting o) 1 0) put s.lives p.inst k.queued (λ _ _ q. q);
+    shown = each_altered (λ _ o. is_waiting o ≡ true → has_shown o ≡ true) put s.lives p.inst k.shown (λ _ _ q. q);
+    dirty = λ m c h. each_altered (λ _ o. IsWaiter o) put s.lives p.inst (λ j. waiters_of s k j (λ e. e)) (λ _ _ q. q) m c h;
+    subscribed = λ m c other. ⊎_elim
+        (λ same. subst (λ j. list_any (same_subscriber (record { inst = j; cell = c })) (subscribers_at stores other) ≡ has_subscription (at (altered put s.lives p.inst) j) c other) (sym same)
+        (told-same c other ∙ sym (ap (λ o. has_subscription o c other) (at-altered_same put s.lives p.inst i there))))
+        (λ different. told-other m c other different ∙ sym (ap (λ o. has_subscription o c other) (at-altered_other put s.lives p.inst m different)))
+        (cases_eq m p.inst);
+  }
+
+sound-given : (s : States) (p : Subscriber) (v : Val) → IsSound s → IsSound (given s p v)
+sound-given s p v k = ⊎_elim (λ b. rw b (sound-taken s p v k)) (λ b. rw b (sound-declared s p v k)) (cases_Bool (has_cell (live s p.inst) p.cell))
+
+pub sound-subscribed : (s : States) (p : Subscriber) (id : ℕ) → IsSound s → IsSound (subscribed_to s p id)
+sound-subscribed s p id k = ⊎_elim
+    (λ b. rw b (over (value_at s.stores id) refl (and_parts (is_some (live s p.inst)) (not (is_subscribed s.stores p)) b)))
+    (λ b. rw b k)
+    (cases_Bool (is_some (live s p.inst) && not (is_subscribed s.stores p)))
+  where
+    over : (o : Option Val) → value_at s.stores id ≡ o → (is_some (live s p.inst) ≡ true) × (not (is_subscribed s.stores p) ≡ true) → IsSound (subscribed_over o s p id)
+    over None e both = k
+    over (Some v) e both = ⊎_elim
+        (λ none. absurd (true≢false (sym both.0 ∙ ap is_some none)))
+        (λ some. let free : is_subscribed s.stores p ≡ false = not-true (is_subscribed s.stores p) both.1 in
+        let t : States = record s { lives = altered (with_subscription (record { cell = p.cell; store = id })) s.lives p.inst; stores = subscribed s.stores id p } in
+        sound-given t p v (rw free (sound-put s p id v some.0 some.1 e k)))
+        (option_cases (live s p.inst))

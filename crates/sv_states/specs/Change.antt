@@ -1,0 +1,65 @@
+-- What else changes the states.
+use Rattle.std.specs.Prelude.{ℕ, suc, not, ◌&&◌, if◌then◌else◌, [], ◌∷◌, ◌++◌, Option, Some, None, is_some, slice_set}
+use Rattle.sv_numbered.specs.Numbered.{altered}
+use Rattle.sv_value.specs.Value.{Val}
+use Rattle.sv_view.specs.Level.{View}
+use Rattle.sv_store.specs.Stores.{Subscriber, value_at, made, is_subscribed, subscribed, dropped}
+use Rattle.sv_instance.specs.Cells as cells
+use Rattle.sv_instance.specs.Standing.{Place, Standing}
+use Rattle.sv_instance.specs.declared.instance.Instance.{Instance}
+use Rattle.sv_instance.specs.declared.setup.Setup.{Setup}
+use Rattle.sv_instance.specs.declared.subscriptions.Subscription.{Subscription}
+use Rattle.sv_states.specs.States.{States, live, with_instance, depth_of, has_cell}
+use Rattle.sv_states.specs.Waiting.{enqueued, without}
+use Rattle.sv_states.specs.Assignment.{taken}
+
+-- what is left with an instance changed
+abbrev pub with_setup : States → ℕ → Setup → States
+with_setup s n setup = with_instance (λ i. record i { setup = setup }) s n
+
+-- how deep the parent is, the root being 1; 0 where there is none
+abbrev pub depth_above : States → Option ℕ → ℕ
+depth_above s None = 0
+depth_above s (Some p) = depth_of (live s p)
+
+abbrev pub place_below : States → ℕ → Option ℕ → Option Standing → Place
+place_below s component parent standing = record { component = component; depth = suc (depth_above s parent); parent = parent; standing = standing }
+
+-- one more instance
+abbrev pub added : States → Instance → States
+added s i = record s { lives = s.lives ++ Some i ∷ [] }
+
+-- an instance goes, with its subscriptions and its entry in the queue
+abbrev pub removed : States → ℕ → States
+removed s n = record s { lives = slice_set s.lives n None; stores = dropped s.stores n; queue = without s.queue n }
+
+-- a cell gets its first value
+abbrev pub declared : States → Subscriber → Val → States
+declared s p v = with_instance (λ i. record i { cells = cells.declared i.cells p.cell v }) s p.inst
+
+-- an instance gets its owner's view, which counts as a change of the cell that stands for it
+abbrev pub with_view : ℕ → View → Instance → Instance
+with_view c view i = record i { cells = cells.touched i.cells c; owner_view = Some view }
+
+abbrev pub viewed : States → ℕ → ℕ → View → States
+viewed s n c view = if has_cell (live s n) c then enqueued (with_instance (with_view c view) s n) n else s
+
+-- one more store
+abbrev pub with_store : States → Val → States
+with_store s v = record s { stores = made s.stores v }
+
+-- the first value of a cell, or a value that it takes
+abbrev pub given : States → Subscriber → Val → States
+given s p v = if has_cell (live s p.inst) p.cell then taken s p v else declared s p v
+
+abbrev pub with_subscription : Subscription → Instance → Instance
+with_subscription x i = record i { subscriptions = i.subscriptions ++ x ∷ [] }
+
+abbrev pub subscribed_over : Option Val → States → Subscriber → ℕ → States
+subscribed_over None s p id = s
+subscribed_over (Some v) s p id =
+    given (record s { lives = altered (with_subscription (record { cell = p.cell; store = id })) s.lives p.inst; stores = subscribed s.stores id p }) p v
+
+-- a cell is subscribed to a store, whose value it takes, unless it is subscribed to one
+abbrev pub subscribed_to : States → Subscriber → ℕ → States
+subscribed_to s p id = if is_some (live s p.inst) && not (is_subscribed s.stores p) then subscribed_over (value_at s.stores id) s p id else s

@@ -1,0 +1,13 @@
+pub mod States
+pub mod Waiting
+pub mod Assignment
+pub mod Change
+pub mod Context
+pub mod Sound
+pub mod Queue
+pub mod Copies
+pub mod Ways
+pub mod Board
+pub mod Empty
+pub mod Lends
+pub mod Prepared

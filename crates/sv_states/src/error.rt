@@ -1,0 +1,25 @@
+// Why an instance isn't made.
+use sv_base::NoMemory;
+use thiserror::Error;
+
+/// Why an instance isn't made.
+#[derive(Clone, Copy, Debug, PartialEq, Eq, Error)]
+pub enum AddError {
+    /// It would be deeper than [`crate::DEPTH_LIMIT`].
+    #[error("components nest too deep")]
+    TreeDepth,
+    /// There was no memory for it, or no number.
+    #[error("out of memory")]
+    NoMemory,
+}
+
+impl From<NoMemory> for AddError {
+    ghost use Rattle.std.specs.Prelude.{◌≡◌};
+    ghost use Rattle.sv_states.specs.declared.error.AddError.TheVariants.{NoMemory as no_memory};
+
+    ghost from_gives = { λ _ e. e ≡ no_memory };
+
+    fn from(_: NoMemory) -> AddError {
+        AddError::NoMemory
+    }
+}

@@ -1,0 +1,5 @@
+pub mod Turn
+pub mod Rounds
+pub mod Waits
+pub mod World
+pub mod Setup

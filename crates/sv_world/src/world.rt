@@ -1,0 +1,195 @@
+// The world.
+ghost use Rattle.std.specs.Prelude.{◌≡◌, ◌≤◌, ◌<◌, ◌↔◌, ℕ, length, Err, IfOk, OnOk, OnErr, IsTrue, is_some, count_by, slice_get, option_map, option_copied};
+ghost use Rattle.sv_value.specs.View.{view_of};
+ghost use Rattle.sv_store.specs.Stores.{subscription_count};
+ghost use Rattle.sv_instance.specs.Place.{inst_number, standing_of};
+ghost use Rattle.sv_instance.specs.Instance.{born};
+ghost use Rattle.sv_instance.specs.Dirty.{is_among};
+ghost use Rattle.sv_states.specs.States.{live, cell_in, cell_count, is_dirty_in};
+ghost use Rattle.sv_states.specs.Waiting.{enqueued, snapped};
+ghost use Rattle.sv_states.specs.Assignment.{assigned, store_set, bound_up};
+ghost use Rattle.sv_states.specs.Change.{depth_above, place_below, added};
+ghost use Rattle.sv_world.specs.World.{IsEmpty, removed, present_view, presented};
+
+use crate::rounds::Rounds;
+use crate::turn::Turn;
+use std::alloc::Global;
+use sv_base::NoMemory;
+use sv_instance::{Bound, Dirty, Instance, Standing};
+use sv_states::{AddError, DEPTH_LIMIT, States};
+use sv_store::Sub;
+use sv_value::{Inst, Value};
+use sv_view::{Cell, Modules, View};
+
+/// The world of a page: the states of its components, the constants of its module files, what a flush still has to do, and what
+/// a turn may still spend. Calls take any instance, cell or store: what isn't there changes nothing.
+#[derive(Drop)]
+pub struct World {
+    alloc: Global,
+    pub states: States,
+    pub modules: Modules,
+    pub rounds: Rounds,
+    pub turn: Turn,
+}
+
+impl World {
+    /// No instances, no stores, no module files, and nothing to do.
+    pub fn new(alloc: Global) -> Result<World, NoMemory>
+        ensures { IfOk result IsEmpty }
+    {
+        Ok(World {
+            alloc,
+            states: States::new(alloc)?,
+            modules: Modules::new(alloc, &[])?,
+            rounds: Rounds::new(alloc),
+            turn: Turn::new(alloc),
+        })
+    }
+
+    /// A new instance, whose script hasn't run; `TreeDepth` exactly where it would be deeper than [`DEPTH_LIMIT`]. A parent
+    /// that isn't live counts as none.
+    pub fn add_instance(
+        &mut self,
+        component: u32,
+        parent: Option<Inst>,
+        cells: u8,
+        constants: u32,
+        standing: Option<Standing>,
+    ) -> Result<Inst, AddError>
+        ensures number { IfOk result (λ inst. inst.number ≡ length self.old.states.lives) }
+        ensures ok { OnOk result (self.new ≡ record self.old { states = added self.old.states (born (place_below self.old.states component (option_map inst_number parent) (option_map standing_of standing)) cells constants) }) }
+        ensures deep { (result ≡ Err AddError.TreeDepth) ↔ (DEPTH_LIMIT ≤ depth_above self.old.states (option_map inst_number parent)) }
+        ensures err { OnErr result (self.new ≡ self.old) }
+    {
+        self.states
+            .add(component, parent, cells, constants, standing)
+    }
+
+    /// An instance goes, with its subscriptions, its entry in the queue, its entries in the render queue, and the binding
+    /// callbacks of which it is the child or the owner.
+    pub fn remove_instance(&mut self, inst: Inst)
+        ensures { self.new ≡ removed self.old inst.number }
+    {
+        self.states.remove(inst);
+        self.rounds.forget(inst);
+    }
+
+    /// Whether an instance is live.
+    pub fn is_live(&self, inst: Inst) -> bool
+        ensures { result ≡ is_some (live self.now.states inst.number) }
+    {
+        self.states.get(inst).is_some()
+    }
+
+    /// A cell, or `None` exactly where its instance isn't live, its declaration hasn't run or there is no such cell.
+    pub fn cell(&self, inst: Inst, cell: u8) -> Option<&Cell>
+        ensures { option_copied result ≡ cell_in (live self.now.states inst.number) cell }
+    {
+        let instance = self.states.get(inst)?;
+        instance.cells.get(cell)
+    }
+
+    /// Whether a cell's count isn't the one at the last snapshot of its instance; true where there was none.
+    pub fn is_dirty(&self, inst: Inst, cell: u8) -> bool
+        ensures { result ≡ is_dirty_in (live self.now.states inst.number) cell }
+    {
+        match self.states.get(inst) {
+            Some(instance) => instance.cells.is_dirty(cell),
+            None => false,
+        }
+    }
+
+    /// How many instances are live.
+    pub fn instances(&self) -> u64
+        ensures { result ≡ count_by is_some self.now.states.lives }
+    {
+        self.states.instances()
+    }
+
+    /// How many subscriptions there are.
+    pub fn subscriptions(&self) -> u64
+        ensures { result ≡ subscription_count self.now.states.stores }
+    {
+        self.states.subscriptions()
+    }
+
+    /// Assigns a cell: the value is stored where that counts as a change, handed up to the variable that the cell is bound to,
+    /// and the instance is queued. The store whose value the cell has is set in its place.
+    pub fn assign(&mut self, inst: Inst, cell: u8, value: Value) -> Result<(), NoMemory>
+        ensures ok { OnOk result (self.new ≡ record self.old { states = assigned self.old.states inst.number cell (view_of value) }) }
+        ensures err { OnErr result (self.new ≡ self.old) }
+    {
+        self.states.assign(Sub { inst, cell }, value)
+    }
+
+    /// Sets a store, where that counts as a change, and then assigns the cells of its subscribers in order.
+    pub fn set_store(&mut self, id: u32, value: Value) -> Result<(), NoMemory>
+        ensures ok { OnOk result (self.new ≡ record self.old { states = store_set self.old.states id (view_of value) }) }
+        ensures err { OnErr result (self.new ≡ self.old) }
+    {
+        self.states.set_store(id, value)
+    }
+
+    /// Runs a binding callback: binds a prop to a variable of the owner, which is assigned the prop's value.
+    pub fn bind_up(
+        &mut self,
+        child: Inst,
+        cell: u8,
+        owner: Inst,
+        target: u8,
+    ) -> Result<(), NoMemory>
+        ensures ok { OnOk result (self.new ≡ record self.old { states = bound_up self.old.states child.number (record { cell = cell; owner = owner.number; target = target }) }) }
+        ensures err { OnErr result (self.new ≡ self.old) }
+    {
+        self.states.bind_up(
+            child,
+            Bound {
+                cell,
+                owner,
+                target,
+            },
+        )
+    }
+
+    /// Puts an instance at the end of the queue. Where it has had no snapshot or stands there, nothing changes.
+    pub fn enqueue(&mut self, inst: Inst)
+        ensures { self.new ≡ record self.old { states = enqueued self.old.states inst.number } }
+    {
+        self.states.enqueue(inst);
+    }
+
+    /// Which cells of an instance changed since its last snapshot, or all where there was none. The snapshot is now, and the
+    /// instance leaves the queue.
+    pub fn take_dirty(&mut self, inst: Inst) -> Dirty
+        ensures world { self.new ≡ record self.old { states = snapped self.old.states inst.number } }
+        ensures length { length result ≡ cell_count (live self.old.states inst.number) }
+        ensures dirty { (cell : ℕ) → cell < cell_count (live self.old.states inst.number) → is_among result cell ≡ is_dirty_in (live self.old.states inst.number) cell }
+    {
+        self.states.take_dirty(inst)
+    }
+
+    /// The view of an instance's present cells and constants, without locals, before its owner's view, or `None` exactly where
+    /// it isn't live.
+    pub fn present(&self, inst: Inst) -> Result<Option<View>, NoMemory>
+        ensures { IfOk result (λ view. view ≡ presented self.now.states self.now.modules inst.number) }
+    {
+        match self.states.get(inst) {
+            Some(instance) => {
+                let view = self.present_of(inst, instance)?;
+                Ok(Some(view))
+            }
+            None => Ok(None),
+        }
+    }
+
+    fn present_of(&self, inst: Inst, instance: &Instance) -> Result<View, NoMemory>
+        ensures { IfOk result (λ view. view ≡ present_view self.now.modules inst.number instance.now) }
+    {
+        let cells = instance.cells.present(self.alloc)?;
+        let view = View::of(self.alloc, inst, cells, instance.owner_view.as_ref())?;
+        let setup = &instance.setup;
+        let constants = setup.constants.share()?;
+        let modules = self.modules.share()?;
+        Ok(view.with_constants(constants, modules))
+    }
+}
