@@ -1,5 +1,5 @@
-//! Rows on what is at the floor: numbers, texts and names, values of scripts, the steps from one list of keys to another, and pages, what is
-//! told of their changes and what they print. `sv_rows` says how rows are written.
+//! Rows on what is at the floor: numbers, texts and names, values of scripts, the steps from one list of keys to another, worlds, and pages,
+//! what is told of their changes and what they print. `sv_rows` says how rows are written.
 #![tactic(auto)]
 
 mod bases;
@@ -9,7 +9,10 @@ mod lists;
 mod literals;
 mod pages;
 mod prints;
+mod scenes;
+mod turns;
 mod values;
+mod views;
 
 use std::alloc::Global;
 use std::{io, str};
@@ -37,6 +40,7 @@ fn answer(alloc: Global, kind: &str, text: &[u8]) -> Result<String, NoMemory> {
         "same" | "differs" => values::two(alloc, kind, text),
         "field" => values::field(alloc, text),
         "steps" => keys::steps(alloc, text),
+        "scene" => scenes::scene(alloc, text),
         "text set" => changes::text_set(alloc, text),
         "twice" => changes::twice(alloc, text),
         "moves" => changes::moves(alloc, text),

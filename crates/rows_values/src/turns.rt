@@ -1,0 +1,221 @@
+// Steps of scenes that have to do with what is left with instances, with a flush and with a turn.
+use crate::scenes::{Scene, literal, number, shown, two};
+use crate::views;
+use sv_base::{NoMemory, Text};
+use sv_instance::{Bound, When};
+use sv_rows::{push_part, yes_or_no};
+use sv_value::{Inst, Key};
+use sv_world::{Binding, Waiting};
+
+/// What is left with instances.
+pub fn happens(scene: &mut Scene, verb: &str, rest: &str) -> Result<String, NoMemory> {
+    let (first, second) = two(rest);
+    let inst = scene.inst(first);
+    match verb {
+        "callback" => {
+            let (when, callback) = two(second);
+            let callback = literal(scene.alloc, callback)?;
+            scene.world.add_callback(inst, when_of(when), callback)?;
+            scene.silent()
+        }
+        "called" => {
+            let (when, at) = two(second);
+            let callback = scene.world.callback(inst, when_of(when), number(at));
+            shown(scene.alloc, callback)
+        }
+        "context" => {
+            let (key, value) = two(second);
+            let value = literal(scene.alloc, value)?;
+            scene.world.set_context(inst, key_of(scene, key)?, value)?;
+            scene.silent()
+        }
+        "find" => {
+            let key = key_of(scene, second)?;
+            shown(scene.alloc, scene.world.states.context(inst, &key))
+        }
+        "constant" => {
+            let (constant, value) = two(second);
+            let value = literal(scene.alloc, value)?;
+            scene.world.set_constant(inst, number(constant), value)?;
+            scene.silent()
+        }
+        "constant-of" => shown(scene.alloc, scene.world.constant(inst, number(second))),
+        _ => tag(scene, verb, rest),
+    }
+}
+
+// How the tag of an instance stands: whether its listeners are attached, and how many locals it was shown with last.
+fn tag(scene: &mut Scene, verb: &str, rest: &str) -> Result<String, NoMemory> {
+    let inst = scene.inst(rest);
+    match verb {
+        "attach" => {
+            scene.world.attach(inst);
+            scene.silent()
+        }
+        "show-tag" => {
+            if let Some(view) = &scene.view {
+                scene.world.show_tag(inst, view.locals().share()?);
+            }
+            scene.silent()
+        }
+        "tag" => match scene.world.states.get(inst) {
+            Some(instance) => {
+                let setup = &instance.setup;
+                let (attached, locals) = (setup.attached, setup.locals.as_slice().len());
+                Ok(format!(in scene.alloc; "{} with {locals}", yes_or_no(attached))?)
+            }
+            None => scene.word("none"),
+        },
+        _ => flush(scene, verb, rest),
+    }
+}
+
+// A key: a number, or a text behind `'`.
+fn key_of(scene: &Scene, word: &str) -> Result<Key, NoMemory> {
+    match word.strip_prefix('\'') {
+        Some(text) => Ok(Key::Text(Text::new(scene.alloc, text)?)),
+        None => Ok(Key::Num(word.parse::<i64>().unwrap_or(0))),
+    }
+}
+
+fn when_of(word: &str) -> When {
+    match word {
+        "mount" => When::Mount,
+        "before" => When::Before,
+        "after" => When::After,
+        "destroy" => When::Destroy,
+        _ => When::Returned,
+    }
+}
+
+// What a flush still has to do.
+fn flush(scene: &mut Scene, verb: &str, rest: &str) -> Result<String, NoMemory> {
+    let (first, second) = two(rest);
+    match verb {
+        "push-binding" => {
+            let (child, owner) = (scene.at(first), scene.at(second));
+            let bound = Bound {
+                cell: child.cell,
+                owner: owner.inst,
+                target: owner.cell,
+            };
+            scene.world.rounds.push_binding(Binding {
+                child: child.inst,
+                bound,
+            })?;
+            scene.silent()
+        }
+        "pop-binding" => match scene.world.rounds.pop_binding() {
+            Some(Binding { child, bound }) => binding(scene, child, bound),
+            None => scene.word("none"),
+        },
+        "push-mount" => {
+            let waiting = Waiting::Mounting(scene.inst(rest));
+            scene.world.rounds.push_waiting(waiting)?;
+            scene.silent()
+        }
+        "push-after" => {
+            let waiting = Waiting::AfterUpdate(scene.inst(first), number(second));
+            scene.world.rounds.push_waiting(waiting)?;
+            scene.silent()
+        }
+        "next" => match scene.world.rounds.next_waiting() {
+            Some(waiting) => entry(scene, waiting),
+            None => scene.word("none"),
+        },
+        _ => ran(scene, verb, rest),
+    }
+}
+
+fn binding(scene: &Scene, child: Inst, bound: Bound) -> Result<String, NoMemory> {
+    let Bound {
+        cell,
+        owner,
+        target,
+    } = bound;
+    Ok(format!(in scene.alloc; "{}.{cell} to {}.{target}", child.number, owner.number)?)
+}
+
+fn entry(scene: &Scene, waiting: Waiting) -> Result<String, NoMemory> {
+    match waiting {
+        Waiting::Mounting(inst) => Ok(format!(in scene.alloc; "mount {}", inst.number)?),
+        Waiting::AfterUpdate(inst, at) => {
+            Ok(format!(in scene.alloc; "after {} {at}", inst.number)?)
+        }
+    }
+}
+
+// Which callbacks ran in a flush.
+fn ran(scene: &mut Scene, verb: &str, rest: &str) -> Result<String, NoMemory> {
+    let (first, second) = two(rest);
+    match verb {
+        "runs" => {
+            let inst = scene.inst(first);
+            let fresh = scene.world.rounds.mark_ran(inst, number(second))?;
+            scene.word(yes_or_no(fresh))
+        }
+        "waits" => {
+            let places = scene.world.rounds.queued_after(scene.inst(rest))?;
+            let mut told = scene.silent()?;
+            for place in places {
+                push_part(&mut told, " ", place.to_string(scene.alloc)?.as_str())?;
+            }
+            Ok(told)
+        }
+        "end-flush" => {
+            scene.world.rounds.end_flush();
+            scene.silent()
+        }
+        _ => turn(scene, verb, rest),
+    }
+}
+
+// What a turn may still spend, and what it logged.
+fn turn(scene: &mut Scene, verb: &str, rest: &str) -> Result<String, NoMemory> {
+    let turn = &mut scene.world.turn;
+    match verb {
+        "begin" => {
+            turn.begin();
+            scene.silent()
+        }
+        "step" => {
+            let left = turn.step();
+            scene.word(yes_or_no(left))
+        }
+        "spend" => {
+            let left = turn.spend(number(rest) as usize);
+            scene.word(yes_or_no(left))
+        }
+        "steps" => {
+            let steps = turn.steps();
+            scene.count(steps as u64)
+        }
+        "work" => {
+            let left = turn.spend_work();
+            scene.word(yes_or_no(left))
+        }
+        "work-left" => {
+            let work = turn.work();
+            scene.count(work as u64)
+        }
+        "number" => {
+            let number = turn.take_local_number()?;
+            scene.count(number)
+        }
+        "log" => {
+            turn.write_log(Text::new(scene.alloc, rest)?)?;
+            scene.silent()
+        }
+        "logged" => logged(scene),
+        _ => views::happens(scene, verb, rest),
+    }
+}
+
+// The lines of the log.
+fn logged(scene: &Scene) -> Result<String, NoMemory> {
+    let mut told = scene.word("log:")?;
+    for line in scene.world.turn.log() {
+        push_part(&mut told, " ", line.as_str())?;
+    }
+    Ok(told)
+}
