@@ -40,7 +40,7 @@ fn answer(alloc: Global, kind: &str, text: &[u8]) -> Result<String, NoMemory> {
         "same" | "differs" => values::two(alloc, kind, text),
         "field" => values::field(alloc, text),
         "steps" => keys::steps(alloc, text),
-        "scene" => scenes::scene(alloc, text),
+        "scene" => scenes::told(alloc, text),
         "text set" => changes::text_set(alloc, text),
         "twice" => changes::twice(alloc, text),
         "moves" => changes::moves(alloc, text),

@@ -23,7 +23,7 @@ pub struct Scene {
 }
 
 /// What a scene is answered.
-pub fn scene(alloc: Global, row: &str) -> Result<String, NoMemory> {
+pub fn told(alloc: Global, row: &str) -> Result<String, NoMemory> {
     let mut scene = Scene::new(alloc)?;
     let mut answers = String::new(alloc);
     for step in row.split("; ") {
@@ -124,7 +124,8 @@ impl Scene {
             "add" => self.add(rest),
             "chain" => self.chain(number(rest)),
             "remove" => {
-                self.world.remove_instance(self.inst(rest));
+                let inst = self.inst(rest);
+                self.world.remove_instance(inst);
                 self.silent()
             }
             "live" => self.word(yes_or_no(self.world.is_live(self.inst(rest)))),
@@ -169,16 +170,8 @@ impl Scene {
     fn changes(&mut self, verb: &str, rest: &str) -> Result<String, NoMemory> {
         let (first, second) = two(rest);
         match verb {
-            "declare" => {
-                let value = literal(self.alloc, second)?;
-                self.world.states.declare(self.at(first), value);
-                self.silent()
-            }
-            "assign" => {
-                let Sub { inst, cell } = self.at(first);
-                self.world.assign(inst, cell, literal(self.alloc, second)?)?;
-                self.silent()
-            }
+            "declare" => self.declare(first, second),
+            "assign" => self.assign(first, second),
             "bind" => {
                 let (child, owner) = (self.at(first), self.at(second));
                 self.world
@@ -186,7 +179,8 @@ impl Scene {
                 self.silent()
             }
             "setting" => {
-                self.world.states.begin_setting(self.inst(rest));
+                let inst = self.inst(rest);
+                self.world.states.begin_setting(inst);
                 self.silent()
             }
             "set-up" => {
@@ -197,20 +191,38 @@ impl Scene {
         }
     }
 
+    fn declare(&mut self, at: &str, word: &str) -> Result<String, NoMemory> {
+        let at = self.at(at);
+        let value = literal(self.alloc, word)?;
+        self.world.states.declare(at, value);
+        self.silent()
+    }
+
+    fn assign(&mut self, at: &str, word: &str) -> Result<String, NoMemory> {
+        let Sub { inst, cell } = self.at(at);
+        let value = literal(self.alloc, word)?;
+        self.world.assign(inst, cell, value)?;
+        self.silent()
+    }
+
+    fn make_store(&mut self, word: &str) -> Result<String, NoMemory> {
+        let value = literal(self.alloc, word)?;
+        let store = self.world.states.make_store(value)?;
+        self.count(store as u64)
+    }
+
+    fn set_store(&mut self, store: u32, word: &str) -> Result<String, NoMemory> {
+        let value = literal(self.alloc, word)?;
+        self.world.set_store(store, value)?;
+        self.silent()
+    }
+
     // What sets stores.
     fn stores(&mut self, verb: &str, rest: &str) -> Result<String, NoMemory> {
         let (first, second) = two(rest);
         match verb {
-            "store" => {
-                let value = literal(self.alloc, rest)?;
-                let store = self.world.states.make_store(value)?;
-                self.count(store as u64)
-            }
-            "set" => {
-                let value = literal(self.alloc, second)?;
-                self.world.set_store(number(first), value)?;
-                self.silent()
-            }
+            "store" => self.make_store(rest),
+            "set" => self.set_store(number(first), second),
             "value" => shown(self.alloc, self.world.states.store_value(number(rest))),
             "subscribe" => {
                 let at = self.at(first);
@@ -236,7 +248,8 @@ impl Scene {
                 None => self.word("nobody"),
             },
             "enqueue" => {
-                self.world.enqueue(self.inst(rest));
+                let inst = self.inst(rest);
+                self.world.enqueue(inst);
                 self.silent()
             }
             _ => turns::happens(self, verb, rest),
@@ -254,7 +267,8 @@ impl Scene {
 
     // Takes a snapshot, and tells which of the first four cells changed.
     fn snapshot(&mut self, rest: &str) -> Result<String, NoMemory> {
-        let dirty = self.world.take_dirty(self.inst(rest));
+        let inst = self.inst(rest);
+        let dirty = self.world.take_dirty(inst);
         let mut cells = String::from_str(self.alloc, "changed")?;
         for cell in 0..4_u8 {
             if dirty.has(cell) {

@@ -12,36 +12,45 @@ pub fn happens(scene: &mut Scene, verb: &str, rest: &str) -> Result<String, NoMe
     let (first, second) = two(rest);
     let inst = scene.inst(first);
     match verb {
-        "callback" => {
-            let (when, callback) = two(second);
-            let callback = literal(scene.alloc, callback)?;
-            scene.world.add_callback(inst, when_of(when), callback)?;
-            scene.silent()
-        }
+        "callback" => add_callback(scene, inst, second),
         "called" => {
             let (when, at) = two(second);
             let callback = scene.world.callback(inst, when_of(when), number(at));
             shown(scene.alloc, callback)
         }
-        "context" => {
-            let (key, value) = two(second);
-            let value = literal(scene.alloc, value)?;
-            scene.world.set_context(inst, key_of(scene, key)?, value)?;
-            scene.silent()
-        }
-        "find" => {
-            let key = key_of(scene, second)?;
-            shown(scene.alloc, scene.world.states.context(inst, &key))
-        }
-        "constant" => {
-            let (constant, value) = two(second);
-            let value = literal(scene.alloc, value)?;
-            scene.world.set_constant(inst, number(constant), value)?;
-            scene.silent()
-        }
+        "context" => set_context(scene, inst, second),
+        "find" => find_context(scene, inst, second),
+        "constant" => set_constant(scene, inst, second),
         "constant-of" => shown(scene.alloc, scene.world.constant(inst, number(second))),
         _ => tag(scene, verb, rest),
     }
+}
+
+fn add_callback(scene: &mut Scene, inst: Inst, rest: &str) -> Result<String, NoMemory> {
+    let (when, word) = two(rest);
+    let callback = literal(scene.alloc, word)?;
+    scene.world.add_callback(inst, when_of(when), callback)?;
+    scene.silent()
+}
+
+fn set_context(scene: &mut Scene, inst: Inst, rest: &str) -> Result<String, NoMemory> {
+    let (key, word) = two(rest);
+    let key = key_of(scene, key)?;
+    let value = literal(scene.alloc, word)?;
+    scene.world.set_context(inst, key, value)?;
+    scene.silent()
+}
+
+fn find_context(scene: &Scene, inst: Inst, word: &str) -> Result<String, NoMemory> {
+    let key = key_of(scene, word)?;
+    shown(scene.alloc, scene.world.states.context(inst, &key))
+}
+
+fn set_constant(scene: &mut Scene, inst: Inst, rest: &str) -> Result<String, NoMemory> {
+    let (constant, word) = two(rest);
+    let value = literal(scene.alloc, word)?;
+    scene.world.set_constant(inst, number(constant), value)?;
+    scene.silent()
 }
 
 // How the tag of an instance stands: whether its listeners are attached, and how many locals it was shown with last.
