@@ -1,19 +1,26 @@
 // The code of small scripts and expressions, and the functions in it by number.
 use crate::read::{expression, script};
 use crate::unanswered::Unanswered;
-use crate::words::{push_place, push_ref, text_of};
+use crate::words::{push_place, text_of};
 use std::alloc::{AllocError, Global};
 use sv_ast::{Import, NameList};
 use sv_base::Names;
-use sv_code::{Code, CodeKind, CodeStmt, CodeStmtKind, Function, FunctionBody, Functions};
-use sv_lower::{lower_expr, lower_stmts};
+use sv_code::{Code, CodeKind, CodeStmt, CodeStmtKind, Function, FunctionBody, Functions, Known};
+use sv_lower::{Inside, TopNames, lower_expr, lower_stmts};
+use sv_names::LocalScope;
 
 /// The code of an expression with its place, and the functions in it.
 pub fn of_expression(alloc: Global, text: &str) -> Result<String, Unanswered> {
     let mut names = Names::empty(alloc);
     let tree = expression(alloc, &mut names, text)?;
+    let tops = TopNames::new(alloc, &names)?;
+    let inside = Inside {
+        alloc,
+        tops: &tops,
+        locals: &LocalScope::Outside,
+    };
     let mut functions = Functions::new(alloc);
-    let code = lower_expr(alloc, &mut functions, &tree)?;
+    let code = lower_expr(&inside, &mut functions, &tree)?;
     expression_told(alloc, &names, &code, functions.as_slice())
 }
 
@@ -34,8 +41,14 @@ fn expression_told(
 pub fn of_script(alloc: Global, text: &str) -> Result<String, Unanswered> {
     let mut names = Names::empty(alloc);
     let script = script(alloc, &mut names, text)?;
+    let tops = TopNames::new(alloc, &names)?;
+    let inside = Inside {
+        alloc,
+        tops: &tops,
+        locals: &LocalScope::Outside,
+    };
     let mut functions = Functions::new(alloc);
-    let codes = lower_stmts(alloc, &mut functions, script.stmts.as_slice())?;
+    let codes = lower_stmts(&inside, &mut functions, script.stmts.as_slice())?;
     script_told(alloc, &names, codes.as_slice(), functions.as_slice())
 }
 
@@ -85,6 +98,8 @@ fn push_body(line: &mut String, names: &Names, body: &FunctionBody) -> Result<()
             }
             Ok(())
         }
+        FunctionBody::Dispatch => line.push_str("a dispatcher"),
+        FunctionBody::Writable => line.push_str("writable"),
     }
 }
 
@@ -92,7 +107,7 @@ fn push_code(line: &mut String, names: &Names, code: &Code) -> Result<(), AllocE
     match code.kind.get() {
         CodeKind::Arrow(number) => write!(line, "function {number}"),
         CodeKind::Num(number) => write!(line, "{number}"),
-        CodeKind::Read(name) => push_ref(line, names, *name),
+        CodeKind::Read(Known::Local(name)) => line.push_str(text_of(names, *name)),
         CodeKind::Not(of) => {
             line.push_str("!")?;
             push_code(line, names, of)
@@ -111,6 +126,7 @@ fn push_stmt(line: &mut String, names: &Names, stmt: &CodeStmt) -> Result<(), Al
             name,
             exported,
             number,
+            ..
         } => {
             line.push_str(if *exported { "export " } else { "" })?;
             write!(line, "{} = function {number}", text_of(names, name.name))

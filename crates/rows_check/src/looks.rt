@@ -6,10 +6,11 @@ use crate::words::{ref_of, text_of};
 use std::alloc::{AllocError, Global};
 use sv_ast::{Component, Ref, RefList};
 use sv_base::Names;
-use sv_code::{Frag, Functions, Reading};
-use sv_frags::{Around, fragments_of};
-use sv_names::Distinct;
-use sv_reads::{LocalScope, reading};
+use sv_code::{Frag, Functions, Handlers, Reading, Tag, Tags};
+use sv_frags::{Around, Tables, fragments_of};
+use sv_lower::TopNames;
+use sv_names::{Distinct, LocalScope};
+use sv_reads::reading;
 use sv_resolve::resolve;
 use sv_slots::children_of;
 
@@ -76,31 +77,39 @@ fn in_cells(
         return Err(Unanswered::TooLong);
     }
     let children = children_of(alloc, &[], tree.script.stmts.as_slice())?;
+    let tops = TopNames::new(alloc, names)?;
     let around = Around {
+        alloc,
+        tops: &tops,
         cells,
         children: &children,
     };
-    let frags = fragments_of(
-        alloc,
-        &mut Functions::new(alloc),
-        &around,
-        tree.nodes.as_slice(),
-    )?;
-    content_told(alloc, names, frags.as_slice())
+    let mut tables = Tables {
+        functions: Functions::new(alloc),
+        tags: Tags::new(alloc),
+        handlers: Handlers::new(alloc),
+    };
+    let frags = fragments_of(&mut tables, &around, tree.nodes.as_slice())?;
+    content_told(alloc, names, tables.tags.as_slice(), frags.as_slice())
 }
 
-fn content_told(alloc: Global, names: &Names, frags: &[Frag]) -> Result<String, Unanswered> {
-    match frags.first().and_then(content) {
+fn content_told(
+    alloc: Global,
+    names: &Names,
+    tags: &[Tag],
+    frags: &[Frag],
+) -> Result<String, Unanswered> {
+    match content_of(tags, frags) {
         Some(reads) => told(alloc, names, reads),
         None => Ok(String::from_str(alloc, "no tag")?),
     }
 }
 
-// What the content of a tag looks at, or of the one that its rows begin with.
-fn content(node: &Frag) -> Option<&Reading> {
-    match node {
-        Frag::Tag { reads, .. } => Some(reads),
-        Frag::Each { body, .. } => content(body.as_slice().first()?),
+// What the content of the first tag looks at, or of the one that the first rows begin with.
+fn content_of<'a>(tags: &'a [Tag], frags: &[Frag]) -> Option<&'a Reading> {
+    match frags.first()? {
+        Frag::Tag { tag, .. } => Some(&tags.get(*tag as usize)?.reads),
+        Frag::Each { body, .. } => content_of(tags, body.as_slice()),
         _ => None,
     }
 }

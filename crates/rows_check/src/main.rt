@@ -13,13 +13,16 @@ mod names;
 mod orders;
 mod purity;
 mod read;
+mod resolved;
 mod scopes;
 mod sites;
 mod slots;
+mod spelled;
 mod unanswered;
 mod words;
 
 use read::Form;
+use resolved::Told;
 use slots::Part;
 use std::alloc::Global;
 use std::{io, str};
@@ -84,6 +87,9 @@ fn found_beyond(alloc: Global, kind: &str, row: &str) -> Result<String, Unanswer
         "code of script" => codes::of_script(alloc, row),
         "names look at" => looks::of_names(alloc, row),
         "content looks at" => looks::of_content(alloc, row),
+        "resolved functions" => resolved::of_program(alloc, Told::Functions, row),
+        "resolved parts" => resolved::of_program(alloc, Told::Parts, row),
+        "stores and modules" => resolved::of_program(alloc, Told::Stores, row),
         "line starts" => lines::starts(alloc, row),
         "places" => lines::places(alloc, row),
         "kept" => lines::pieces(alloc, false, row),

@@ -1,4 +1,7 @@
 // Small texts and programs, read.
+ghost use Rattle.std.specs.Prelude.{◌≡◌, [], IfOk};
+ghost use Rattle.sv_lines.specs.Lines.{LinesAscend};
+
 use crate::unanswered::Unanswered;
 use std::alloc::Global;
 use sv_ast::{
@@ -130,8 +133,10 @@ pub fn sources(alloc: Global, row: &str) -> Result<Vec<Source<'_>>, Unanswered> 
     Ok(sources)
 }
 
-/// The program of some files.
-pub fn program(alloc: Global, sources: &[Source<'_>], form: Form) -> Result<Bundle, Unanswered> {
+/// The program of some files, of which no line is told.
+pub fn program(alloc: Global, sources: &[Source<'_>], form: Form) -> Result<Bundle, Unanswered>
+    ensures { IfOk result (λ bundle. LinesAscend bundle.files) }
+{
     let mut bundle = Bundle {
         names: Names::empty(alloc),
         files: Files::new(alloc),
@@ -149,7 +154,9 @@ fn source_file(
     file: u16,
     source: Source<'_>,
     form: Form,
-) -> Result<SourceFile, Unanswered> {
+) -> Result<SourceFile, Unanswered>
+    ensures { IfOk result (λ read. read.lines ≡ []) }
+{
     let name = Text::new(alloc, source.name)?;
     let tree = tree_of(alloc, names, file, source, form)?;
     Ok(SourceFile {

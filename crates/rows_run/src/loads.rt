@@ -1,21 +1,12 @@
-// What programs load to, and which of their files can't be run yet.
-ghost use Rattle.std.specs.Prelude.{IfOk};
-ghost use Rattle.sv_check.specs.Checked.{AreChecked};
-ghost use Rattle.sv_lines.specs.Lines.{LinesAscend};
-
+// What programs load to.
 use crate::given::Given;
 use std::alloc::Global;
 use sv_ast::{Bundle, FileTree, SourceFile};
 use sv_base::{Name, NoMemory};
-use sv_check::{Checked, check};
-use sv_compile::compile;
 use sv_load::{LoadError, load};
-use sv_resolve::CheckError;
 use sv_rows::{push_gap, push_part};
 
-fn bundle(alloc: Global, root: &str, text: &[u8]) -> Result<Bundle, LoadError>
-    ensures { IfOk result (λ bundle. LinesAscend bundle.files) }
-{
+fn bundle(alloc: Global, root: &str, text: &[u8]) -> Result<Bundle, LoadError> {
     let (mut shelf, _) = Given::read(alloc, text)?.into_shelf_and_sink(alloc)?;
     load(alloc, &mut shelf, root)
 }
@@ -71,34 +62,6 @@ fn names_in(alloc: Global, bundle: &Bundle) -> Result<String, NoMemory> {
         )?;
     }
     Ok(line)
-}
-
-/// The number of the first file of a program that can't be run yet, or `none`; or why there is no program.
-pub fn unbuilt(alloc: Global, root: &str, text: &[u8]) -> Result<String, NoMemory> {
-    match bundle(alloc, root, text) {
-        Ok(bundle) => unbuilt_of(alloc, &bundle),
-        Err(error) => refused(alloc, &error),
-    }
-}
-
-fn unbuilt_of(alloc: Global, bundle: &Bundle) -> Result<String, NoMemory>
-    requires { LinesAscend bundle.now.files }
-{
-    match check(alloc, bundle) {
-        Ok(checked) => unbuilt_in(alloc, &checked),
-        Err(CheckError::Refused(refusal)) => Ok(refusal.kind.to_string(alloc)?),
-        Err(CheckError::NoMemory) => Err(NoMemory),
-    }
-}
-
-fn unbuilt_in(alloc: Global, checked: &Checked<'_>) -> Result<String, NoMemory>
-    requires checked { AreChecked checked.now.bundle.now checked.now.components }
-    requires lines { LinesAscend checked.now.bundle.now.files }
-{
-    match compile(alloc, checked)?.unbuilt() {
-        Some(file) => Ok(file.to_string(alloc)?),
-        None => Ok(String::from_str(alloc, "none")?),
-    }
 }
 
 fn refused(alloc: Global, error: &LoadError) -> Result<String, NoMemory> {

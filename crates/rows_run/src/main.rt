@@ -21,7 +21,6 @@ fn answer(rt: &HostRuntime, kind: &str, text: &[u8]) -> Result<String, NoMemory>
         "end" => runs::end(alloc, of.strip_prefix("of svp ").unwrap_or(of), text),
         "files" => loads::files(alloc, of.strip_prefix("from ").unwrap_or(of), text),
         "count" => loads::count(alloc, of.strip_prefix("of files from ").unwrap_or(of), text),
-        "unbuilt" => loads::unbuilt(alloc, of.strip_prefix("file from ").unwrap_or(of), text),
         "names" => loads::names(alloc, of.strip_prefix("from ").unwrap_or(of), text),
         "reads" => shelves::reads(alloc, text),
         "writes" => shelves::writes(alloc, text),

@@ -12,4 +12,4 @@ all_mono P Q f xs h k d lt = f (get_or xs k d) (h k d lt)
 
 -- the lines of its files begin in order
 pub lines_ascend : (p : Program) → IsCompiled p → All (λ file. ascends file.lines ≡ true) p.files
-lines_ascend p c = all_mono (IsFile _ _) (λ (file : ProgramFile). ascends file.lines ≡ true) (λ f is. is.lines) p.files c.files
+lines_ascend p c = all_mono (IsFile p) (λ (file : ProgramFile). ascends file.lines ≡ true) (λ f is. is.lines) p.files c.files

@@ -1,9 +1,10 @@
 // Expressions.
 ghost use Rattle.std.specs.Prelude.{◌≡◌, IfOk};
 
+use crate::known::{Known, Property};
 use std::alloc::Global;
-use sv_ast::{AssignOp, Op, Ref};
-use sv_base::{Name, NoMemory, Num, Span, Text};
+use sv_ast::{AssignOp, Op};
+use sv_base::{NoMemory, Num, Span, Text};
 use sv_list::Boxed;
 
 /// Expressions, as the arguments of a call or the parts of a template.
@@ -36,7 +37,7 @@ impl Code {
     }
 }
 
-/// The forms of expressions, as those of `sv_ast::ExprKind`.
+/// The forms of expressions: those of `sv_ast::ExprKind`, where a name is what it stands for.
 #[cycle(code)]
 #[derive(Drop)]
 pub enum CodeKind {
@@ -45,19 +46,19 @@ pub enum CodeKind {
     Bool(bool),
     Num(Num),
     Text(Text),
-    Read(Ref),
+    Read(Known),
     List(CodeItems),
     Object(CodeFields),
     Template(Codes),
     /// An arrow, by its number among the functions of the program.
     Arrow(u32),
     Assign {
-        target: Ref,
+        target: Known,
         op: AssignOp,
         value: Code,
     },
     Bump {
-        target: Ref,
+        target: Known,
         up: bool,
         prefix: bool,
     },
@@ -74,7 +75,7 @@ pub enum CodeKind {
     },
     Member {
         of: Code,
-        word: Name,
+        property: Property,
     },
     Index {
         of: Code,
@@ -82,6 +83,12 @@ pub enum CodeKind {
     },
     Call {
         of: Code,
+        args: Codes,
+    },
+    /// A call of `createEventDispatcher`: the number of the dispatcher that it makes among the functions of the program. What it is
+    /// handed is evaluated and dropped.
+    Dispatcher {
+        number: u32,
         args: Codes,
     },
 }

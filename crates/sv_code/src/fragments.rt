@@ -1,6 +1,5 @@
 // Markup.
 use crate::parts::{Part, Reading};
-use sv_ast::Modifiers;
 use sv_base::{Name, Span, Text};
 use sv_list::Boxed;
 
@@ -41,12 +40,10 @@ pub enum FragAttr {
         name: Name,
         value: FragValue,
     },
-    /// `on:`, whose expression is no part of the page; without one it passes the event on.
+    /// `on:`: the number of its handler among those of the program, and what the handler's expression looks at.
     On {
-        span: Span,
-        name: Name,
-        modifiers: Modifiers,
-        handler: Option<Part>,
+        handler: u32,
+        reads: Reading,
     },
     /// `bind:`, whose part reads the variable that it names.
     Bind {
@@ -89,14 +86,9 @@ pub enum Frag {
         attrs: FragAttrs,
         children: Frags,
     },
-    /// A component's tag: the number of its file, which only a name without an import hasn't; the names of its default content; its content
-    /// in the order of the text, that of named slots among it; and what its content looks at.
+    /// A component's tag: its number among those of the program, and what it looks at, with its content.
     Tag {
-        span: Span,
-        file: Option<usize>,
-        attrs: FragAttrs,
-        lets: LetNames,
-        content: Frags,
+        tag: u32,
         reads: Reading,
     },
     /// In the content of a component, what goes to the slot of a name.

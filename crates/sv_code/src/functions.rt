@@ -2,6 +2,8 @@
 ghost use Rattle.std.specs.Prelude.{◌≡◌, IfOk};
 
 use crate::code::Code;
+use crate::known::Known;
+use crate::parts::Locals;
 use std::alloc::Global;
 use sv_ast::{Import, NameList, Named};
 use sv_base::{NoMemory, Span};
@@ -19,10 +21,13 @@ pub type CodeArms = sv_list::Items<CodeArm>;
 /// The functions and arrows of a program, by number.
 pub type Functions = sv_list::Items<Function>;
 
-/// A declared name and its first value.
+/// A declared name, what it stands for, and its first value. Of a constant at the top of a component, `store` is the cell that has the
+/// value of the store that it holds, if its `$` name is written anywhere.
 #[derive(Drop)]
 pub struct CodeDecl {
     pub name: Named,
+    pub target: Known,
+    pub store: Option<u8>,
     pub first: Option<Code>,
 }
 
@@ -57,7 +62,11 @@ impl CodeStmt {
 #[derive(Drop)]
 pub enum CodeStmtKind {
     Empty,
-    Block(CodeStmts),
+    /// A block, with the names that it declares.
+    Block {
+        declares: Locals,
+        stmts: CodeStmts,
+    },
     Let(CodeDecls),
     Const {
         decls: CodeDecls,
@@ -71,7 +80,9 @@ pub enum CodeStmtKind {
         test: Code,
         body: CodeStmt,
     },
+    /// A `for` with its head, and the names that the head declares.
     For {
+        declares: Locals,
         first: Option<CodeStmt>,
         test: Option<Code>,
         next: Option<Code>,
@@ -90,24 +101,34 @@ pub enum CodeStmtKind {
     Import(Import),
     Export(CodeDecls),
     React(CodeStmt),
-    /// A function, by its number among the functions of the program.
+    /// A function at the top of a file: which constant it is, and its number among the functions of the program.
     Function {
         name: Named,
         exported: bool,
+        target: Known,
         number: u32,
     },
 }
 
-/// A function or an arrow: its parameters and its body.
+/// What a function value calls: where it is written; its parameters; the local names that it takes along when it is made, by first
+/// appearance; the names that its body declares; and its body.
 #[derive(Drop)]
 pub struct Function {
+    pub span: Span,
     pub params: NameList,
+    pub captured: Locals,
+    pub declares: Locals,
     pub body: FunctionBody,
 }
 
-/// The body of a function, or an arrow's one expression.
+/// The body of a function, or an arrow's one expression; or what a dispatcher does, or `writable`.
 #[derive(Drop)]
 pub enum FunctionBody {
     Value(Code),
     Block(CodeStmts),
+    Dispatch,
+    Writable,
 }
+
+/// The number of `writable` among the functions of each program.
+pub const WRITABLE: u32 = 0;

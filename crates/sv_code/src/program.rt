@@ -1,11 +1,11 @@
 // Whole programs.
-ghost use Rattle.std.specs.Prelude.{◌≡◌};
-
 use crate::fragments::Frags;
 use crate::functions::{CodeStmts, Functions};
+use crate::known::Known;
 use crate::parts::CellList;
+use crate::tags::{Handlers, Tags};
 use sv_ast::{LineStarts, RefList};
-use sv_base::{Names, Span, Text};
+use sv_base::{Name, Names, Span, Text};
 
 /// The files of a program, in order of reading.
 pub type ProgramFiles = sv_list::Items<ProgramFile>;
@@ -24,22 +24,58 @@ pub struct Run {
     pub sets: CellList,
 }
 
-/// A component: its cells by number; the cells of its props, in order of declaration; its reactive statements; its script, with them in
-/// it; and its markup.
+/// The props of a component, in order of declaration.
+pub type Props = sv_list::Items<Prop>;
+
+/// The stores whose `$` names a component has, in the order of those.
+pub type StoreCells = sv_list::Items<StoreCell>;
+
+/// Module files, by number.
+pub type ModuleList = sv_list::Items<u16>;
+
+/// A prop: its name, and its cell.
+#[derive(Clone, Copy, Debug, PartialEq, Eq)]
+pub struct Prop {
+    pub name: Name,
+    pub cell: u8,
+}
+
+/// A cell that has the value of a store (`$x`): what holds the store, a constant of the component or what a file gives; and where that is
+/// declared or imported.
+#[derive(Clone, Copy, Debug, PartialEq, Eq)]
+pub struct StoreCell {
+    pub cell: u8,
+    pub holder: Known,
+    pub span: Span,
+}
+
+/// A component: its cells by number; its props; the cells that only reactive statements declare; its store cells; the cell of the owner's
+/// view, where it has a `<slot>`; how many constants it has; its reactive statements; its script, with them in it; and its markup.
 #[derive(Drop)]
 pub struct Component {
     pub cells: RefList,
-    pub props: CellList,
+    pub props: Props,
+    pub reactive: CellList,
+    pub stores: StoreCells,
+    pub view: Option<u8>,
+    pub constants: u32,
     pub runs: Runs,
     pub script: CodeStmts,
     pub markup: Frags,
 }
 
-/// The code of a file: of a component, or the script of a module.
+/// A module: how many constants it has, and its script.
+#[derive(Drop)]
+pub struct Module {
+    pub constants: u32,
+    pub script: CodeStmts,
+}
+
+/// The code of a file.
 #[derive(Drop)]
 pub enum FileCode {
     Component(Component),
-    Module(CodeStmts),
+    Module(Module),
 }
 
 /// A file: its name, where its lines begin, and its code.
@@ -50,22 +86,14 @@ pub struct ProgramFile {
     pub code: FileCode,
 }
 
-/// A compiled program: the texts of its names, its files, its functions by number, and the first file that can't be run yet.
+/// A compiled program: the texts of its names; its files; its functions, component tags and handlers by number; and its module files in the
+/// order in which they run, each behind those that it imports.
 #[derive(Drop)]
 pub struct Program {
     pub names: Names,
     pub files: ProgramFiles,
     pub functions: Functions,
-    pub unbuilt: Option<u16>,
-}
-
-impl Program {
-    /// What the compiler found: the first file, in order of reading, that has a form which can't be run yet, or `None` where no file has
-    /// one. Such forms are a `<slot>`; a component's tag with content; a `let:` directive or a `slot` attribute; an import with braces; a
-    /// `$` name; `on:` or `bind:` on a component's tag; and `on:` without an expression.
-    pub fn unbuilt(&self) -> Option<u16>
-        ensures { result ≡ self.now.unbuilt }
-    {
-        self.unbuilt
-    }
+    pub tags: Tags,
+    pub handlers: Handlers,
+    pub modules: ModuleList,
 }

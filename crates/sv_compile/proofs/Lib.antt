@@ -1,5 +1,10 @@
+pub mod Ordering
+pub mod Adding
+pub mod Giving
 pub mod Order
 pub mod OneProgram
 pub mod Reacting
-pub mod Files
+pub mod TagFiles
+pub mod Standing
 pub mod Compiled
+pub mod Wholes

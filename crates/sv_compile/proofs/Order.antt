@@ -1,7 +1,7 @@
 -- The reactive statements of a script by their numbers.
 use Rattle.std.proofs.Common.{◌≡◌, ℕ, zero, suc, ◌+◌, ◌<◌, Bool, true, false, cond, List, [], ◌∷◌, ◌++◌, Some, length, filter, drop, get_or, refl, sym, ap, ◌∙◌, arith}
-use Rattle.std.specs.Prelude.{IsTrue, ◌↔◌, not, slice_get, slice_index_or, count_by, nat_lt, ◌==◌, if◌then◌else◌}
-use Rattle.std.proofs.lemmas.Bool.{eq-eqb, ltb-true, false≢true}
+use Rattle.std.specs.Prelude.{slice_get, slice_index_or, count_by, nat_lt, ◌==◌, if◌then◌else◌}
+use Rattle.std.proofs.lemmas.Bool.{eq-eqb, ltb-true}
 use Rattle.std.proofs.lemmas.List.Sums.{sum_by-cons}
 use Rattle.std.specs.Option.{option_to_list, option_map}
 use Rattle.std.proofs.lemmas.List.{drop_more, append_assoc, length-map}
@@ -12,7 +12,6 @@ use Rattle.sv_names.specs.Uses.{read_names, assigned_names}
 use Rattle.sv_check.specs.Waiting.{is_reactive, reads as stmt_reads}
 use Rattle.sv_order.specs.declared.reads.Reads.{Reads}
 use Rattle.sv_order.specs.ReactiveOrder.{IsEachOnce}
-use Rattle.sv_compile.specs.Unbuilt.{is_filled}
 use Rattle.sv_compile.specs.Runs.{reactives_from, reactives, run, run_at, runs}
 
 -- one statement more in the order in which they run
@@ -58,11 +57,3 @@ numbers_below stmts order once k d within =
     let many : length (stmt_reads stmts) ≡ length (filter is_reactive stmts) = length-map (filter is_reactive stmts) (λ s. record { reads = read_names s; sets = assigned_names s }) in
     let same = length_placed 0 stmts in
     omega arith
-
--- ---- what is empty
-
-pub filled_is : {A : Type 0} (b : Bool) (xs : List A) → IsTrue b ↔ (xs ≡ []) → not b ≡ is_filled xs
-filled_is true [] is = refl
-filled_is true (x ∷ xs) is = let none = ap length (is.0 refl) in absurd (omega arith)
-filled_is false [] is = absurd (false≢true (is.1 refl))
-filled_is false (x ∷ xs) is = refl

@@ -1,4 +1,7 @@
 pub mod Runs
-pub mod Unbuilt
+pub mod Constants
+pub mod TopLevel
+pub mod Sheet
+pub mod Modules
 pub mod Compile
 pub mod Laws

@@ -1,10 +1,15 @@
 //! The compiler: what is left of a checked program, for those that run it or list it.
 #![tactic(auto)]
 
+mod cells;
+mod constants;
+mod files;
+mod imports;
 mod laws;
+mod modules;
 mod program;
 mod runs;
-mod unbuilt;
+mod top_level;
 
 pub use laws::one_program;
 pub use program::compile;

@@ -9,8 +9,7 @@ use crate::counter::Counter;
 use crate::page::shown_text;
 use std::alloc::Global;
 use sv_base::{NoMemory, Text};
-use sv_dom::{Attr, Dom, Node};
-use sv_html::print;
+use sv_dom::{Attr, Dom, Node, print};
 
 /// The page of a counter, and the text on it.
 #[derive(Drop)]

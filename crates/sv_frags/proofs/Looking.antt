@@ -1,16 +1,13 @@
 -- What is looked at is there.
-use Rattle.std.proofs.Common.{ℕ, zero, suc, ◌+◌, ◌<◌, Bool, true, false, List, [], ◌∷◌, length, arith}
+use Rattle.std.proofs.Common.{◌≡◌, ℕ, zero, suc, ◌+◌, ◌<◌, Bool, true, false, List, [], ◌∷◌, length, map, subst, arith}
 use Rattle.std.specs.List.{All, list_any}
 use Rattle.std.specs.Prelude.{nat_eq}
 use Rattle.std.proofs.lemmas.List.Elements.{All-nil, All-cons, All-append, All-map}
 use Rattle.sv_ast.specs.declared.names.Ref.{Ref}
-use Rattle.sv_code.specs.declared.fragments.Frag.{Frag}
-use Rattle.sv_code.specs.declared.fragments.LetName.{LetName}
-use Rattle.sv_code.specs.Numbers.{OfCell, IsThere, counts, of_reading}
+use Rattle.sv_code.specs.Numbers.{OfCell, Counts, IsThere, cells_in, of_reading}
 use Rattle.sv_code.proofs.Compiled.{all_mono}
-use Rattle.sv_lower.proofs.Keeping.{Always}
 use Rattle.sv_names.specs.Distinct.{has}
-use Rattle.sv_reads.specs.Looks.{among_from, looked_at}
+use Rattle.sv_reads.specs.Looks.{Looked, among_from, gathered}
 use Rattle.sv_reads.specs.Reading.{number_if, numbers_from, numbers, reading}
 
 if_below : (b : Bool) (n top : ℕ) → n < top → All (λ k. k < top) (number_if b n)
@@ -35,12 +32,13 @@ among_below n (suc count) numbers =
 pub numbers_within : (cells names : List Ref) → All (λ k. k < length cells) (numbers cells names)
 numbers_within cells names = all_mono (λ k. k < zero + length cells) (λ k. k < length cells) (λ k h. omega (arith, h)) (numbers cells names) (numbers_below zero cells names)
 
-pub reading_there : (files : ℕ) (cells locals names : List Ref) → Always (length cells) files (of_reading (reading cells locals names))
-reading_there files cells locals names n =
-    All-map (IsThere (counts (length cells) files n)) OfCell (reading cells locals names).cells
-    (numbers_within cells _)
+-- numbers below the count of cells are those of cells
+cells_there : (counts : Counts) (count : ℕ) (list : List ℕ) → count ≡ cells_in counts.home → All (λ k. k < count) list → All (IsThere counts) (map OfCell list)
+cells_there counts count list e h = All-map (IsThere counts) OfCell list (subst (λ c. All (λ k. k < c) list) e h)
 
-pub looked_there : (files count : ℕ) (lets : List LetName) (list : List Frag) → Always count files (of_reading (looked_at count lets list))
-looked_there files count lets list n =
-    All-map (IsThere (counts count files n)) OfCell (looked_at count lets list).cells
-    (all_mono (λ k. k < zero + count) (λ k. k < count) (λ k h. omega (arith, h)) (looked_at count lets list).cells (among_below zero count _))
+pub reading_there : (counts : Counts) (cells locals names : List Ref) → length cells ≡ cells_in counts.home → All (IsThere counts) (of_reading (reading cells locals names))
+reading_there counts cells locals names e = cells_there counts (length cells) (reading cells locals names).cells e (numbers_within cells _)
+
+pub gathered_there : (counts : Counts) (count : ℕ) (looked : Looked) → count ≡ cells_in counts.home → All (IsThere counts) (of_reading (gathered count looked))
+gathered_there counts count looked e =
+    cells_there counts count (gathered count looked).cells e (all_mono (λ k. k < zero + count) (λ k. k < count) (λ k h. omega (arith, h)) (gathered count looked).cells (among_below zero count looked.cells))

@@ -11,14 +11,15 @@ use Rattle.sv_ast.specs.declared.markup_tree.Markup.{Markup as AnyMarkup, Markup
 use Rattle.sv_ast.specs.declared.markup_tree.TagAttr.{TagAttr}
 use Rattle.sv_base.specs.declared.names.Name.{Name}
 use Rattle.sv_base.specs.declared.span.Span.{Span}
-use Rattle.sv_code.specs.declared.fragments.Frag.{Frag}
 use Rattle.sv_code.specs.declared.fragments.FragArm.{FragArm}
 use Rattle.sv_scopes.specs.Attributes.{is_slotted}
 use Rattle.sv_white.specs.declared.pieces.Piece.{Piece}
 use Rattle.sv_white.specs.declared.pieces.Piece.TheVariants.{Words, Apart, Other}
 use Rattle.sv_white.specs.White.{kept}
-use Rattle.sv_frags.specs.Frags.{Node, node, markup, branch, tag, element, component, slot}
-use Rattle.sv_frags.specs.Makes.{Makes}
+use Rattle.sv_frags.specs.Content.{Node}
+use Rattle.sv_frags.specs.Frags.{node, markup, branch}
+use Rattle.sv_frags.specs.Builds.{Builds}
+use Rattle.sv_frags.specs.Tags.{Form, Element, Component, Slot, tag}
 use Rattle.sv_frags.specs.Pieces.{made_of, made_at, made, numbered, numbered_tag, IsNumber}
 use Rattle.sv_frags.proofs.Natural.{kept_lifted}
 
@@ -41,39 +42,39 @@ number_numbered count n (Words text) below = tt
 number_numbered count n (Apart make) below = below
 number_numbered count n (Other make) below = below
 
-numbered_tag_by : (n : ℕ) (attrs : List TagAttr) (make : Makes Frag) (b : Bool) → is_slotted attrs ≡ b → numbered n (tag attrs make) ≡ numbered_tag n attrs
+numbered_tag_by : (n : ℕ) (form : Form) (span : Span) (attrs : List TagAttr) (children : List Node) (b : Bool) → is_slotted attrs ≡ b → numbered n (tag form span attrs children) ≡ numbered_tag n attrs
 unfolding tag
-numbered_tag_by n attrs make true e = rw (e) refl
-numbered_tag_by n attrs make false e = rw (e) refl
+numbered_tag_by n form span attrs children true e = rw (e) refl
+numbered_tag_by n form span attrs children false e = rw (e) refl
 
 -- the number of a tag
-pub numbered_tag_is : (n : ℕ) (attrs : List TagAttr) (make : Makes Frag) → numbered n (tag attrs make) ≡ numbered_tag n attrs
-numbered_tag_is n attrs make = numbered_tag_by n attrs make (is_slotted attrs) refl
+pub numbered_tag_is : (n : ℕ) (form : Form) (span : Span) (attrs : List TagAttr) (children : List Node) → numbered n (tag form span attrs children) ≡ numbered_tag n attrs
+numbered_tag_is n form span attrs children = numbered_tag_by n form span attrs children (is_slotted attrs) refl
 
-element_node : (span : Span) (name : List ℕ) (attrs : List TagAttr) (children : List AnyMarkup) → node (Markup.Element span name attrs children) ≡ tag attrs (element span name attrs (map node children))
+element_node : (span : Span) (name : List ℕ) (attrs : List TagAttr) (children : List AnyMarkup) → node (Markup.Element span name attrs children) ≡ tag (Element name) span attrs (map node children)
 unfolding Markup.roll-Markup denote.Hole.Carrier.roll
-element_node span name attrs children = fold-roll-Markup Node (Makes FragArm) markup branch (Markup-F.Element span name attrs children)
+element_node span name attrs children = fold-roll-Markup Node (Builds FragArm) markup branch (Markup-F.Element span name attrs children)
 
-component_node : (span : Span) (name : Name) (attrs : List TagAttr) (children : List AnyMarkup) → node (Markup.Comp span name attrs children) ≡ tag attrs (component span name attrs (map node children))
+component_node : (span : Span) (name : Name) (attrs : List TagAttr) (children : List AnyMarkup) → node (Markup.Comp span name attrs children) ≡ tag (Component name) span attrs (map node children)
 unfolding Markup.roll-Markup denote.Hole.Carrier.roll
-component_node span name attrs children = fold-roll-Markup Node (Makes FragArm) markup branch (Markup-F.Comp span name attrs children)
+component_node span name attrs children = fold-roll-Markup Node (Builds FragArm) markup branch (Markup-F.Comp span name attrs children)
 
-slot_node : (span : Span) (name : List ℕ) (attrs : List TagAttr) (children : List AnyMarkup) → node (Markup.Slot span name attrs children) ≡ tag attrs (slot span name attrs (map node children))
+slot_node : (span : Span) (name : List ℕ) (attrs : List TagAttr) (children : List AnyMarkup) → node (Markup.Slot span name attrs children) ≡ tag (Slot name) span attrs (map node children)
 unfolding Markup.roll-Markup denote.Hole.Carrier.roll
-slot_node span name attrs children = fold-roll-Markup Node (Makes FragArm) markup branch (Markup-F.Slot span name attrs children)
+slot_node span name attrs children = fold-roll-Markup Node (Builds FragArm) markup branch (Markup-F.Slot span name attrs children)
 
-tag_number : (n : ℕ) (m x : AnyMarkup) (attrs : List TagAttr) (make : Makes Frag) → m ≡ x → node x ≡ tag attrs make → numbered n (node m) ≡ numbered_tag n attrs
-tag_number n m x attrs make is made = ap (λ y. numbered n (node y)) is ∙ ap (numbered n) made ∙ numbered_tag_is n attrs make
+tag_number : (n : ℕ) (m x : AnyMarkup) (form : Form) (span : Span) (attrs : List TagAttr) (children : List Node) → m ≡ x → node x ≡ tag form span attrs children → numbered n (node m) ≡ numbered_tag n attrs
+tag_number n m x form span attrs children is made = ap (λ y. numbered n (node y)) is ∙ ap (numbered n) made ∙ numbered_tag_is n form span attrs children
 
 -- the numbers of tags
 pub numbered_element : (n : ℕ) (m : AnyMarkup) (span : Span) (name : List ℕ) (attrs : List TagAttr) (children : List AnyMarkup) → m ≡ Markup.Element span name attrs children → numbered n (node m) ≡ numbered_tag n attrs
-numbered_element n m span name attrs children is = tag_number n m _ attrs _ is (element_node span name attrs children)
+numbered_element n m span name attrs children is = tag_number n m _ _ span attrs _ is (element_node span name attrs children)
 
 pub numbered_component : (n : ℕ) (m : AnyMarkup) (span : Span) (name : Name) (attrs : List TagAttr) (children : List AnyMarkup) → m ≡ Markup.Comp span name attrs children → numbered n (node m) ≡ numbered_tag n attrs
-numbered_component n m span name attrs children is = tag_number n m _ attrs _ is (component_node span name attrs children)
+numbered_component n m span name attrs children is = tag_number n m _ _ span attrs _ is (component_node span name attrs children)
 
 pub numbered_slot : (n : ℕ) (m : AnyMarkup) (span : Span) (name : List ℕ) (attrs : List TagAttr) (children : List AnyMarkup) → m ≡ Markup.Slot span name attrs children → numbered n (node m) ≡ numbered_tag n attrs
-numbered_slot n m span name attrs children is = tag_number n m _ attrs _ is (slot_node span name attrs children)
+numbered_slot n m span name attrs children is = tag_number n m _ _ span attrs _ is (slot_node span name attrs children)
 
 -- the pieces of one node more
 pub more_pieces : (nodes : List AnyMarkup) (n : ℕ) (x : AnyMarkup) (pieces all : List (Piece ℕ)) (p : Piece ℕ) → n < length nodes → x ≡ get_or nodes n x → p ≡ numbered n (node x) → all ≡ pieces ++ p ∷ []

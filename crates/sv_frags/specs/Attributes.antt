@@ -1,5 +1,5 @@
 -- What is made of the attributes and directives of a tag. `slot` and `let:` are left to the content that they name.
-use Rattle.std.specs.Prelude.{ℕ, List, [], ◌∷◌, ◌++◌, Option, None, Some, map, option_map}
+use Rattle.std.specs.Prelude.{ℕ, List, [], ◌∷◌, ◌++◌, Option, None, Some, length, map, option_map}
 use Rattle.std.specs.List.{flat_map}
 use Rattle.std.specs.Option.{option_to_list}
 use Rattle.sv_ast.specs.declared.markup_tree.AttrKind.{AttrKind}
@@ -9,7 +9,9 @@ use Rattle.sv_ast.specs.declared.markup_tree.AttrPart.TheVariants as attr_part
 use Rattle.sv_ast.specs.declared.markup_tree.AttrValue.{AttrValue}
 use Rattle.sv_ast.specs.declared.markup_tree.AttrValue.TheVariants as attr_value
 use Rattle.sv_ast.specs.declared.markup_tree.TagAttr.{TagAttr}
+use Rattle.sv_ast.specs.declared.names.Ref.TheVariants as ref
 use Rattle.sv_ast.specs.declared.script_tree.Expr.{Expr}
+use Rattle.sv_ast.specs.declared.script_tree.ExprKind.TheVariants as expr
 use Rattle.sv_code.specs.declared.fragments.FragAttr.{FragAttr}
 use Rattle.sv_code.specs.declared.fragments.FragAttr.TheVariants as frag_attr
 use Rattle.sv_code.specs.declared.fragments.FragValue.{FragValue}
@@ -18,21 +20,25 @@ use Rattle.sv_code.specs.declared.fragments.FragValuePart.{FragValuePart}
 use Rattle.sv_code.specs.declared.fragments.FragValuePart.TheVariants as value_part
 use Rattle.sv_code.specs.declared.fragments.LetName.{LetName}
 use Rattle.sv_code.specs.declared.parts.Part.{Part}
-use Rattle.sv_lower.specs.Does.{just, of_one, of_two}
+use Rattle.sv_code.specs.declared.parts.Reading.{Reading}
+use Rattle.sv_code.specs.declared.tags.Handler.{Handler}
 use Rattle.sv_base.specs.declared.names.Name.{Name}
+use Rattle.sv_base.specs.declared.span.Span.{Span}
 use Rattle.sv_scopes.specs.declared.words.Declared.{Declared}
 use Rattle.sv_scopes.specs.Attributes.{past, let_names}
-use Rattle.sv_frags.specs.Makes.{Makes, all, optional, part, named}
+use Rattle.sv_lower.specs.Does.{just, followed, of_one, of_two, each, given}
+use Rattle.sv_frags.specs.Builds.{Builds, Numbers}
+use Rattle.sv_frags.specs.Expressions.{part}
 
 -- ---- values
 
-abbrev pub shown : AttrPart → Makes FragValuePart
-shown (attr_part.Text text) around locals = just (value_part.Text text)
-shown (attr_part.Show span e) around locals = of_one value_part.Show (part e around locals)
+abbrev pub shown : AttrPart → Builds FragValuePart
+shown (attr_part.Text text) = just (value_part.Text text)
+shown (attr_part.Show span e) = of_one value_part.Show (part e)
 
-abbrev pub value : AttrValue → Makes FragValue
-value attr_value.Bare around locals = just frag_value.Bare
-value (attr_value.Parts parts) around locals = of_one frag_value.Parts (all (map shown parts) around locals)
+abbrev pub value : AttrValue → Builds FragValue
+value attr_value.Bare = just frag_value.Bare
+value (attr_value.Parts parts) = of_one frag_value.Parts (each (map shown parts))
 
 -- the first expression of some parts
 abbrev pub first_expr : List AttrPart → Option Expr
@@ -45,27 +51,45 @@ abbrev pub expr_of : AttrValue → Option Expr
 expr_of attr_value.Bare = None
 expr_of (attr_value.Parts parts) = first_expr parts
 
+-- a name at a place, as an expression
+abbrev pub name_at : Name → Span → Expr
+name_at name span = record { span = span; kind = expr.Read (ref.Plain name) }
+
 -- the part of a directive: its expression, or the name behind so many bytes of it
-abbrev pub directive : ℕ → TagAttr → Option Expr → Makes Part
-directive front a None = named a.name (past front a.span)
+abbrev pub directive : ℕ → TagAttr → Option Expr → Builds Part
+directive front a None = part (name_at a.name (past front a.span))
 directive front a (Some e) = part e
+
+-- ---- handlers
+
+abbrev pub handler : TagAttr → Builds Handler
+handler a = of_one (λ p. record { span = a.span; name = a.name; modifiers = a.modifiers; listener = p }) (given (option_map part (expr_of a.value)))
+
+-- what the expression of a handler looks at
+abbrev pub heard : Option Part → Reading
+heard None = record { cells = []; locals = [] }
+heard (Some p) = p.reads
+
+-- a handler behind those that there are
+abbrev pub with_handler : Handler → Numbers FragAttr
+with_handler h tables = (frag_attr.On (length tables.handlers) (heard h.listener), record tables { handlers = tables.handlers ++ h ∷ [] })
 
 -- ---- attributes
 
-abbrev pub attr_of : AttrKind → TagAttr → Makes (Option FragAttr)
-attr_of kind.Plain a around locals = of_one (λ v. Some (frag_attr.Plain a.span a.name v)) (value a.value around locals)
-attr_of kind.On a around locals = of_one (λ p. Some (frag_attr.On a.span a.name a.modifiers p)) (optional (option_map part (expr_of a.value)) around locals)
-attr_of kind.Bind a around locals = of_one (λ p. Some (frag_attr.Bind a.span a.name p)) (directive 5 a (expr_of a.value) around locals)
-attr_of kind.Class a around locals = of_one (λ p. Some (frag_attr.Class a.span a.name p)) (directive 6 a (expr_of a.value) around locals)
-attr_of kind.Let a around locals = just None
-attr_of kind.Slot a around locals = just None
+abbrev pub attr_of : AttrKind → TagAttr → Builds (Option FragAttr)
+attr_of kind.Plain a = of_one (λ v. Some (frag_attr.Plain a.span a.name v)) (value a.value)
+attr_of kind.On a = of_one Some (followed (handler a) with_handler)
+attr_of kind.Bind a = of_one (λ p. Some (frag_attr.Bind a.span a.name p)) (directive 5 a (expr_of a.value))
+attr_of kind.Class a = of_one (λ p. Some (frag_attr.Class a.span a.name p)) (directive 6 a (expr_of a.value))
+attr_of kind.Let a = just None
+attr_of kind.Slot a = just None
 
-abbrev pub attr : TagAttr → Makes (Option FragAttr)
+abbrev pub attr : TagAttr → Builds (Option FragAttr)
 attr a = attr_of a.kind a
 
-abbrev pub attrs : List TagAttr → Makes (List FragAttr)
-attrs [] around locals = just []
-attrs (a ∷ list) around locals = of_two (λ own more. option_to_list own ++ more) (attr a around locals) (attrs list around locals)
+abbrev pub attrs : List TagAttr → Builds (List FragAttr)
+attrs [] = just []
+attrs (a ∷ list) = of_two (λ own more. option_to_list own ++ more) (attr a) (attrs list)
 
 -- ---- slots
 

@@ -1,5 +1,8 @@
-pub mod Makes
-pub mod Around
+pub mod Builds
+pub mod Expressions
 pub mod Attributes
+pub mod Content
+pub mod Tags
 pub mod Frags
+pub mod Around
 pub mod Pieces

@@ -5,21 +5,22 @@ use Rattle.sv_ast.specs.declared.markup_tree.Markup.{Markup}
 use Rattle.sv_ast.specs.declared.markup_tree.TagAttr.{TagAttr}
 use Rattle.sv_code.specs.declared.fragments.Frag.{Frag}
 use Rattle.sv_code.specs.declared.fragments.Frag.TheVariants as frag
-use Rattle.sv_lower.specs.Does.{just}
 use Rattle.sv_scopes.specs.Attributes.{is_slotted}
 use Rattle.sv_white.specs.declared.pieces.Piece.{Piece}
 use Rattle.sv_white.specs.declared.pieces.Piece.TheVariants.{Words, Apart, Other}
-use Rattle.sv_frags.specs.Makes.{Makes}
-use Rattle.sv_frags.specs.Frags.{Node, node}
+use Rattle.sv_lower.specs.Does.{just}
+use Rattle.sv_frags.specs.Builds.{Builds}
+use Rattle.sv_frags.specs.Content.{Node}
+use Rattle.sv_frags.specs.Frags.{node}
 
 -- what is made of a node where it stands
-abbrev pub made_of : Node → Makes Frag
-made_of (Words text) around locals = just (frag.Text text)
-made_of (Apart make) around locals = make around locals
-made_of (Other make) around locals = make around locals
+abbrev pub made_of : Node → Builds Frag
+made_of (Words text) = just (frag.Text text)
+made_of (Apart make) = make
+made_of (Other make) = make
 
 -- what is made of the node with a number
-abbrev pub made_at : List Markup → ℕ → Makes Frag
+abbrev pub made_at : List Markup → ℕ → Builds Frag
 made_at nodes n = made_of (option_map_or node (slice_get nodes n) (Words []))
 
 -- the same piece of something else

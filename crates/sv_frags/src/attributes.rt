@@ -1,38 +1,35 @@
 // Attributes and directives.
-ghost use Rattle.std.specs.Prelude.{◌≡◌, ◌≤◌, ◌++◌, [], length, map, option_map, IfOk, OnOk};
+ghost use Rattle.std.specs.Prelude.{◌≡◌, ◌++◌, map, option_map, IfOk, OnOk};
 ghost use Rattle.std.specs.List.{flat_map};
-ghost use Rattle.sv_reads.specs.Around.{names_of};
+ghost use Rattle.sv_names.specs.Locals.{names_of};
 ghost use Rattle.sv_scopes.specs.Attributes.{past as spec_past, given_part};
 ghost use Rattle.sv_frags.specs.Around.{seen};
 ghost use Rattle.sv_frags.specs.Attributes as spec;
-ghost use Rattle.sv_frags.specs.Makes.{all};
+ghost use Rattle.sv_lower.specs.Does.{Makes, each};
 
-use crate::around::Around;
-use crate::parts::{named_part, optional_part, part};
+use crate::around::{Around, Tables};
+use crate::parts::{optional_part, part};
 use std::alloc::Global;
 use sv_ast::{AttrKind, AttrPart, AttrValue, Expr, ExprKind, Ref, TagAttr};
 use sv_base::{Name, NoMemory, Span};
 use sv_code::{
-    FragAttr, FragAttrs, FragValue, FragValuePart, FragValueParts, Functions, LetName, LetNames,
-    Part,
+    CellList, FragAttr, FragAttrs, FragValue, FragValuePart, FragValueParts, Handler, LetName,
+    LetNames, Locals, Part, Reading,
 };
-use sv_reads::LocalScope;
+use sv_names::LocalScope;
 
 /// What is made of the attributes and directives of a tag.
 pub(crate) fn attrs_of(
-    alloc: Global,
-    functions: &mut Functions,
+    tables: &mut Tables,
     around: &Around<'_>,
     locals: &LocalScope<'_>,
     list: &[TagAttr],
 ) -> Result<FragAttrs, NoMemory>
-    requires { length around.now.cells.now ≤ 256 }
-    ensures attrs { IfOk result (λ attrs. attrs ≡ (spec.attrs list.now (seen around.now) (names_of locals.now) functions.old).0) }
-    ensures functions { OnOk result (functions.new ≡ (spec.attrs list.now (seen around.now) (names_of locals.now) functions.old).1) }
+    ensures { Makes result (spec.attrs list.now (seen around.now) (names_of locals.now) tables.old) tables.new }
 {
-    let mut attrs = FragAttrs::new(alloc);
+    let mut attrs = FragAttrs::new(around.alloc);
     for of in list {
-        if let Some(attr) = attr_of(alloc, functions, around, locals, of)? {
+        if let Some(attr) = attr_of(tables, around, locals, of)? {
             attrs.push(attr)?;
         }
     }
@@ -40,58 +37,110 @@ pub(crate) fn attrs_of(
 }
 
 fn attr_of(
-    alloc: Global,
-    functions: &mut Functions,
+    tables: &mut Tables,
     around: &Around<'_>,
     locals: &LocalScope<'_>,
     of: &TagAttr,
 ) -> Result<Option<FragAttr>, NoMemory>
-    requires { length around.now.cells.now ≤ 256 }
-    ensures attr { IfOk result (λ attr. attr ≡ (spec.attr of.now (seen around.now) (names_of locals.now) functions.old).0) }
-    ensures functions { OnOk result (functions.new ≡ (spec.attr of.now (seen around.now) (names_of locals.now) functions.old).1) }
+    ensures { Makes result (spec.attr of.now (seen around.now) (names_of locals.now) tables.old) tables.new }
 {
     match of.kind {
         AttrKind::Plain => Ok(Some(FragAttr::Plain {
             span: of.span,
             name: of.name,
-            value: value_of(alloc, functions, around, locals, &of.value)?,
+            value: value_of(tables, around, locals, &of.value)?,
         })),
-        AttrKind::On => Ok(Some(FragAttr::On {
-            span: of.span,
-            name: of.name,
-            modifiers: of.modifiers,
-            handler: optional_part(alloc, functions, around, locals, expr_of(&of.value))?,
-        })),
+        AttrKind::On => {
+            let handler = handler_of(tables, around, locals, of)?;
+            Ok(Some(add_handler(tables, around.alloc, handler)?))
+        }
         AttrKind::Bind => Ok(Some(FragAttr::Bind {
             span: of.span,
             name: of.name,
-            target: directive(alloc, functions, around, locals, 5, of)?,
+            target: directive(tables, around, locals, 5, of)?,
         })),
         AttrKind::Class => Ok(Some(FragAttr::Class {
             span: of.span,
             name: of.name,
-            test: directive(alloc, functions, around, locals, 6, of)?,
+            test: directive(tables, around, locals, 6, of)?,
         })),
         AttrKind::Let | AttrKind::Slot => Ok(None),
     }
 }
 
+fn handler_of(
+    tables: &mut Tables,
+    around: &Around<'_>,
+    locals: &LocalScope<'_>,
+    of: &TagAttr,
+) -> Result<Handler, NoMemory>
+    ensures { Makes result (spec.handler of.now (seen around.now) (names_of locals.now) tables.old) tables.new }
+{
+    Ok(Handler {
+        span: of.span,
+        name: of.name,
+        modifiers: of.modifiers,
+        listener: optional_part(tables, around, locals, expr_of(&of.value))?,
+    })
+}
+
+// Puts a handler behind those that there are, where there is a number left below 2^32.
+fn add_handler(tables: &mut Tables, alloc: Global, handler: Handler) -> Result<FragAttr, NoMemory>
+    ensures { Makes result (spec.with_handler handler tables.old) tables.new }
+{
+    let number = next_number(tables.handlers.len())?;
+    let reads = heard(alloc, &handler.listener)?;
+    tables.handlers.push(handler)?;
+    Ok(FragAttr::On {
+        handler: number,
+        reads,
+    })
+}
+
+// What the expression of a handler looks at.
+fn heard(alloc: Global, listener: &Option<Part>) -> Result<Reading, NoMemory>
+    ensures { IfOk result (λ reading. reading ≡ spec.heard listener.now) }
+{
+    match listener {
+        Some(part) => copy_of(alloc, &part.reads),
+        None => Ok(Reading {
+            cells: CellList::new(alloc),
+            locals: Locals::new(alloc),
+        }),
+    }
+}
+
+fn copy_of(alloc: Global, reading: &Reading) -> Result<Reading, NoMemory>
+    ensures { IfOk result (λ copy. copy ≡ reading.now) }
+{
+    Ok(Reading {
+        cells: CellList::copy_of(alloc, reading.cells.as_slice())?,
+        locals: Locals::copy_of(alloc, reading.locals.as_slice())?,
+    })
+}
+
+/// The number of the next item of a list with this length, where it is below 2^32.
+pub(crate) fn next_number(len: usize) -> Result<u32, NoMemory>
+    ensures { IfOk result (λ number. number ≡ len) }
+{
+    match u32::try_from(len) {
+        Ok(number) => Ok(number),
+        Err(_) => Err(NoMemory),
+    }
+}
+
 fn value_of(
-    alloc: Global,
-    functions: &mut Functions,
+    tables: &mut Tables,
     around: &Around<'_>,
     locals: &LocalScope<'_>,
     of: &AttrValue,
 ) -> Result<FragValue, NoMemory>
-    requires { length around.now.cells.now ≤ 256 }
-    ensures value { IfOk result (λ value. value ≡ (spec.value of.now (seen around.now) (names_of locals.now) functions.old).0) }
-    ensures functions { OnOk result (functions.new ≡ (spec.value of.now (seen around.now) (names_of locals.now) functions.old).1) }
+    ensures { Makes result (spec.value of.now (seen around.now) (names_of locals.now) tables.old) tables.new }
 {
     match of {
         AttrValue::Bare => Ok(FragValue::Bare),
         AttrValue::Parts(parts) => Ok(FragValue::Parts(value_parts(
-            alloc,
-            functions,
+            tables,
             around,
             locals,
             parts.as_slice(),
@@ -100,39 +149,33 @@ fn value_of(
 }
 
 fn value_parts(
-    alloc: Global,
-    functions: &mut Functions,
+    tables: &mut Tables,
     around: &Around<'_>,
     locals: &LocalScope<'_>,
     list: &[AttrPart],
 ) -> Result<FragValueParts, NoMemory>
-    requires { length around.now.cells.now ≤ 256 }
-    ensures parts { IfOk result (λ parts. parts ≡ (all (map spec.shown list.now) (seen around.now) (names_of locals.now) functions.old).0) }
-    ensures functions { OnOk result (functions.new ≡ (all (map spec.shown list.now) (seen around.now) (names_of locals.now) functions.old).1) }
+    ensures { Makes result (each (map spec.shown list.now) (seen around.now) (names_of locals.now) tables.old) tables.new }
 {
-    let mut parts = FragValueParts::new(alloc);
+    let mut parts = FragValueParts::new(around.alloc);
     for of in list {
-        parts.push(value_part(alloc, functions, around, locals, of)?)?;
+        parts.push(value_part(tables, around, locals, of)?)?;
     }
     Ok(parts)
 }
 
 fn value_part(
-    alloc: Global,
-    functions: &mut Functions,
+    tables: &mut Tables,
     around: &Around<'_>,
     locals: &LocalScope<'_>,
     of: &AttrPart,
 ) -> Result<FragValuePart, NoMemory>
-    requires { length around.now.cells.now ≤ 256 }
-    ensures part { IfOk result (λ part. part ≡ (spec.shown of.now (seen around.now) (names_of locals.now) functions.old).0) }
-    ensures functions { OnOk result (functions.new ≡ (spec.shown of.now (seen around.now) (names_of locals.now) functions.old).1) }
+    ensures { Makes result (spec.shown of.now (seen around.now) (names_of locals.now) tables.old) tables.new }
 {
     match of {
         AttrPart::Text(text) => Ok(FragValuePart::Text(text.share()?)),
-        AttrPart::Show { value, .. } => Ok(FragValuePart::Show(part(
-            alloc, functions, around, locals, value,
-        )?)),
+        AttrPart::Show { value, .. } => {
+            Ok(FragValuePart::Show(part(tables, around, locals, value)?))
+        }
     }
 }
 
@@ -159,20 +202,21 @@ fn first_expr(parts: &[AttrPart]) -> Option<&Expr>
 
 // The part of a directive: its expression, or the name behind so many bytes of it.
 fn directive(
-    alloc: Global,
-    functions: &mut Functions,
+    tables: &mut Tables,
     around: &Around<'_>,
     locals: &LocalScope<'_>,
     front: u32,
     of: &TagAttr,
 ) -> Result<Part, NoMemory>
-    requires { length around.now.cells.now ≤ 256 }
-    ensures part { IfOk result (λ part. part ≡ (spec.directive front of.now (spec.expr_of of.now.value) (seen around.now) (names_of locals.now) functions.old).0) }
-    ensures functions { OnOk result (functions.new ≡ (spec.directive front of.now (spec.expr_of of.now.value) (seen around.now) (names_of locals.now) functions.old).1) }
+    ensures { Makes result (spec.directive front of.now (spec.expr_of of.now.value) (seen around.now) (names_of locals.now) tables.old) tables.new }
 {
     match expr_of(&of.value) {
-        Some(e) => part(alloc, functions, around, locals, e),
-        None => named_part(alloc, around, locals, of.name, past(front, of.span)),
+        Some(e) => part(tables, around, locals, e),
+        None => {
+            let name = ExprKind::Read(Ref::Plain(of.name));
+            let e = Expr::new(around.alloc, past(front, of.span), name)?;
+            part(tables, around, locals, &e)
+        }
     }
 }
 

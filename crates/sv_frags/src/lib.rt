@@ -1,4 +1,5 @@
-//! The fragments of components: markup with its white space taken, and with parts in place of expressions.
+//! The fragments of components: markup with its white space taken, with parts in place of expressions, and with numbers in place of
+//! component tags and handlers.
 #![tactic(auto)]
 
 mod around;
@@ -6,7 +7,8 @@ mod attributes;
 mod markup;
 mod parts;
 mod pieces;
+mod rows;
 mod tags;
 
-pub use around::Around;
+pub use around::{Around, Tables};
 pub use markup::fragments_of;

@@ -1,53 +1,52 @@
 // The expressions of markup.
-ghost use Rattle.std.specs.Prelude.{◌≡◌, ◌≤◌, ◌++◌, not, length, filter, option_map, IfOk, OnOk};
+ghost use Rattle.std.specs.Prelude.{◌≡◌, ◌++◌, not, filter, option_map, IfOk, OnOk};
 ghost use Rattle.sv_names.specs.Distinct.{has, firsts, with_name, with_names};
 ghost use Rattle.sv_names.specs.Uses.{free_names as spec_free_names};
-ghost use Rattle.sv_reads.specs.Around.{names_of};
-ghost use Rattle.sv_reads.specs.Reading.{reading as spec_reading};
+ghost use Rattle.sv_names.specs.Locals.{names_of};
 ghost use Rattle.sv_frags.specs.Around.{seen};
-ghost use Rattle.sv_frags.specs.Makes as spec;
+ghost use Rattle.sv_lower.specs.Does.{Makes, given};
+ghost use Rattle.sv_frags.specs.Expressions as spec;
 
-use crate::around::Around;
+use crate::around::{Around, Tables};
 use std::alloc::Global;
 use sv_ast::{Expr, Ref, RefList};
-use sv_base::{Name, NoMemory, Span};
-use sv_code::{Code, CodeKind, Functions, Part, Reading};
-use sv_lower::lower_expr;
-use sv_names::{Distinct, free_names};
-use sv_reads::{LocalScope, reading};
+use sv_base::NoMemory;
+use sv_code::Part;
+use sv_lower::{Inside, lower_expr};
+use sv_names::{Distinct, LocalScope, free_names};
+use sv_reads::reading;
 
 /// The part of an expression, which looks at the names that stand free in it.
 pub(crate) fn part(
-    alloc: Global,
-    functions: &mut Functions,
+    tables: &mut Tables,
     around: &Around<'_>,
     locals: &LocalScope<'_>,
     e: &Expr,
 ) -> Result<Part, NoMemory>
-    requires { length around.now.cells.now ≤ 256 }
-    ensures part { IfOk result (λ part. part ≡ (spec.part e.now (seen around.now) (names_of locals.now) functions.old).0) }
-    ensures functions { OnOk result (functions.new ≡ (spec.part e.now (seen around.now) (names_of locals.now) functions.old).1) }
+    ensures { Makes result (spec.part e.now (seen around.now) (names_of locals.now) tables.old) tables.new }
 {
-    let names = free_names(alloc, e)?;
-    part_of(alloc, functions, around, locals, names.as_slice(), e)
+    let names = free_names(around.alloc, e)?;
+    part_of(tables, around, locals, names.as_slice(), e)
 }
 
 /// The part of an expression that looks at some names.
-#[tactic(auto, unfolding(crate::specs::Makes::part_of))]
+#[tactic(auto, unfolding(crate::specs::Expressions::part_of))]
 pub(crate) fn part_of(
-    alloc: Global,
-    functions: &mut Functions,
+    tables: &mut Tables,
     around: &Around<'_>,
     locals: &LocalScope<'_>,
     names: &[Ref],
     e: &Expr,
 ) -> Result<Part, NoMemory>
-    requires { length around.now.cells.now ≤ 256 }
-    ensures part { IfOk result (λ part. part ≡ (spec.part_of names.now e.now (seen around.now) (names_of locals.now) functions.old).0) }
-    ensures functions { OnOk result (functions.new ≡ (spec.part_of names.now e.now (seen around.now) (names_of locals.now) functions.old).1) }
+    ensures { Makes result (spec.part_of names.now e.now (seen around.now) (names_of locals.now) tables.old) tables.new }
 {
-    let reads = reading(alloc, around.cells, locals, names)?;
-    let code = lower_expr(alloc, functions, e)?;
+    let inside = Inside {
+        alloc: around.alloc,
+        tops: around.tops,
+        locals,
+    };
+    let reads = reading(around.alloc, around.cells, locals, names)?;
+    let code = lower_expr(&inside, &mut tables.functions, e)?;
     Ok(Part {
         span: e.span,
         code,
@@ -57,41 +56,17 @@ pub(crate) fn part_of(
 
 /// The part of an expression that may be absent.
 pub(crate) fn optional_part(
-    alloc: Global,
-    functions: &mut Functions,
+    tables: &mut Tables,
     around: &Around<'_>,
     locals: &LocalScope<'_>,
     e: Option<&Expr>,
 ) -> Result<Option<Part>, NoMemory>
-    requires { length around.now.cells.now ≤ 256 }
-    ensures part { IfOk result (λ part. part ≡ (spec.optional (option_map spec.part (option_map (λ x. x.now) e.entry)) (seen around.now) (names_of locals.now) functions.old).0) }
-    ensures functions { OnOk result (functions.new ≡ (spec.optional (option_map spec.part (option_map (λ x. x.now) e.entry)) (seen around.now) (names_of locals.now) functions.old).1) }
+    ensures { Makes result (given (option_map spec.part (option_map (λ x. x.now) e.entry)) (seen around.now) (names_of locals.now) tables.old) tables.new }
 {
     match e {
-        Some(e) => Ok(Some(part(alloc, functions, around, locals, e)?)),
+        Some(e) => Ok(Some(part(tables, around, locals, e)?)),
         None => Ok(None),
     }
-}
-
-/// The part of a name at a place.
-#[tactic(auto, unfolding(crate::specs::Makes::named_part))]
-pub(crate) fn named_part(
-    alloc: Global,
-    around: &Around<'_>,
-    locals: &LocalScope<'_>,
-    name: Name,
-    span: Span,
-) -> Result<Part, NoMemory>
-    requires { length around.now.cells.now ≤ 256 }
-    ensures { IfOk result (λ part. part ≡ spec.named_part name span (seen around.now) (names_of locals.now)) }
-{
-    let name = Ref::Plain(name);
-    let reads = reading(alloc, around.cells, locals, std::slice::from_ref(&name))?;
-    Ok(Part {
-        span,
-        code: Code::new(alloc, span, CodeKind::Read(name))?,
-        reads,
-    })
 }
 
 /// The names of the list of an each block, of whose row some names are.

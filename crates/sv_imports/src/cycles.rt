@@ -28,8 +28,8 @@ pub fn import_cycles(alloc: Global, bundle: &Bundle) -> Result<Items<Items<Span>
     find_cycles(alloc, files, &table)
 }
 
-// For each file those that it imports.
-fn import_links(alloc: Global, files: &[SourceFile]) -> Result<Vec<Items<u32>>, NoMemory>
+/// For each file those that it imports, in the order of its statements. `NoMemory` comes at want of memory alone.
+pub fn import_links(alloc: Global, files: &[SourceFile]) -> Result<Vec<Items<u32>>, NoMemory>
     requires { length files.now < 2 ^ 32 }
     ensures { IfOk result (λ links. links.items ≡ imports.imports files.now) }
 {

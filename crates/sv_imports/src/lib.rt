@@ -8,7 +8,8 @@ mod origin;
 mod unknown;
 mod words;
 
-pub use cycles::import_cycles;
+pub use cycles::{import_cycles, import_links};
 pub use files::{file_named, statements_of};
+pub use origin::{Origin, origin_of};
 pub use unknown::unknown_imports;
-pub use words::is_life_function;
+pub use words::{is_life_function, is_store_function};

@@ -8,7 +8,7 @@ use sv_base::built_in::{LIFE_MODULE, STORE_MODULE};
 
 /// What an import takes its names from.
 #[derive(Clone, Copy)]
-pub(crate) enum Origin {
+pub enum Origin {
     /// `svelte`.
     Life,
     /// `svelte/store`.
@@ -20,7 +20,7 @@ pub(crate) enum Origin {
 }
 
 /// What an import from this text takes its names from.
-pub(crate) fn origin_of(files: &[SourceFile], from: &str) -> Origin
+pub fn origin_of(files: &[SourceFile], from: &str) -> Origin
     ensures { result ≡ spec.origin_of files.now from.now }
 {
     if from == LIFE_MODULE {

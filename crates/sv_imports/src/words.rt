@@ -14,7 +14,7 @@ pub fn is_life_function(names: &Names, name: Name) -> bool
 }
 
 /// Whether a name is that of a function of `svelte/store`.
-pub(crate) fn is_store_function(names: &Names, name: Name) -> bool
+pub fn is_store_function(names: &Names, name: Name) -> bool
     ensures { result ≡ is_one_of names.now store_functions name }
 {
     names.is_one_of(name, &STORE_FUNCTIONS)

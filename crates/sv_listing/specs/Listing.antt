@@ -13,7 +13,7 @@ use Rattle.sv_code.specs.declared.program.ProgramFile.{ProgramFile}
 use Rattle.sv_code.specs.declared.program.Run.{Run}
 use Rattle.sv_lines.specs.Lines.{ascends, line_in, column_in}
 use Rattle.sv_listing.specs.Names.{ref_text, cell_text, reading_texts, listed}
-use Rattle.sv_listing.specs.Parts.{parts}
+use Rattle.sv_listing.specs.Parts.{parts, insides}
 
 -- the lines of each of these files ascend
 abbrev pub LinesAscend : List ProgramFile → Type 0
@@ -39,21 +39,26 @@ abbrev pub part_line : List (List ℕ) → List Ref → List ℕ → Part → Li
 part_line names cells lines part =
     codes "part " ++ (place_text lines part.span ++ (codes " reads " ++ (listed (reading_texts names cells part.reads) ++ codes "\n")))
 
--- the lines of a component: those of its cells, then of its reactive statements, then of the expressions of its markup
-abbrev pub component_lines : List (List ℕ) → (lines : List ℕ) → Component → List ℕ
-component_lines names lines c =
+-- the lines of a component, where these parts stand inside of component tags: those of its cells, then of its reactive statements, then of the
+-- expressions of its markup
+abbrev pub component_lines : List (List ℕ) → List (List Part) → (lines : List ℕ) → Component → List ℕ
+component_lines names inside lines c =
     flat_map (λ (cell : ℕ × Ref). cell_line names cell.0 cell.1) (enumerate_from 0 c.cells)
-    ++ (flat_map (run_line names c.cells lines) c.runs ++ flat_map (part_line names c.cells lines) (parts c.markup))
+    ++ (flat_map (run_line names c.cells lines) c.runs ++ flat_map (part_line names c.cells lines) (parts inside c.markup))
 
 -- what is printed for a component in the file of a name
-abbrev pub component_text : List (List ℕ) → (name lines : List ℕ) → Component → List ℕ
-component_text names name lines c = codes "component " ++ (name ++ (codes "\n" ++ component_lines names lines c))
+abbrev pub component_text : List (List ℕ) → List (List Part) → (name lines : List ℕ) → Component → List ℕ
+component_text names inside name lines c = codes "component " ++ (name ++ (codes "\n" ++ component_lines names inside lines c))
 
 -- what is printed for the code of a file, which is nothing for a module
-abbrev pub code_text : List (List ℕ) → (name lines : List ℕ) → FileCode → List ℕ
-code_text names name lines (code.Component c) = component_text names name lines c
-code_text names name lines (code.Module stmts) = []
+abbrev pub code_text : List (List ℕ) → List (List Part) → (name lines : List ℕ) → FileCode → List ℕ
+code_text names inside name lines (code.Component c) = component_text names inside name lines c
+code_text names inside name lines (code.Module m) = []
+
+-- what is printed for a file
+abbrev pub file_text : List (List ℕ) → List (List Part) → ProgramFile → List ℕ
+file_text names inside file = code_text names inside file.name file.lines file.code
 
 -- the listing of a program
 abbrev pub listing : Program → List ℕ
-listing program = flat_map (λ file. code_text program.names file.name file.lines file.code) program.files
+listing program = flat_map (file_text program.names (insides program.tags)) program.files

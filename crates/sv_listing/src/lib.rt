@@ -8,11 +8,13 @@ ghost use Rattle.sv_listing.specs.Listing as spec;
 mod attributes;
 mod cells;
 mod files;
+mod found;
 mod names;
 mod rows;
 mod walk;
 
-use files::push_files;
+use files::{Known, push_files};
+use found::insides_of;
 use std::alloc::Global;
 use sv_base::NoMemory;
 use sv_code::Program;
@@ -27,7 +29,13 @@ pub fn listing(alloc: Global, program: &Program) -> Result<Vec<u8>, NoMemory>
     requires { spec.LinesAscend program.now.files }
     ensures { IfOk result (λ text. text.items ≡ spec.listing program.now) }
 {
+    let insides = insides_of(alloc, program.tags.as_slice())?;
+    let known = Known {
+        alloc,
+        names: &program.names,
+        insides: &insides,
+    };
     let mut text = String::new(alloc);
-    push_files(&mut text, &program.names, program.files.as_slice())?;
+    push_files(&mut text, &known, program.files.as_slice())?;
     Ok(text.into_bytes())
 }

@@ -1,5 +1,5 @@
 // The lines of a listing.
-ghost use Rattle.std.specs.Prelude.{◌≡◌, ℕ, ◌++◌, true, OnOk, string_bytes};
+ghost use Rattle.std.specs.Prelude.{◌≡◌, ℕ, ◌++◌, true, map, OnOk, string_bytes};
 ghost use Rattle.std.specs.List.{flat_map, enumerate_from};
 ghost use Rattle.sv_ast.specs.declared.names.Ref.{Ref as AnyRef};
 ghost use Rattle.sv_lines.specs.Lines.{ascends};
@@ -74,8 +74,7 @@ pub(crate) fn push_runs(
     Ok(())
 }
 
-/// Appends the line of an expression of markup.
-pub(crate) fn push_part(
+fn push_part(
     text: &mut String,
     names: &Names,
     cells: &[Ref],
@@ -89,4 +88,21 @@ pub(crate) fn push_part(
     write!(text, "part {line}:{column} reads ")?;
     push_reading(text, names, cells, &part.reads)?;
     Ok(text.push_str("\n")?)
+}
+
+/// Appends the lines of expressions of markup.
+pub(crate) fn push_parts(
+    text: &mut String,
+    names: &Names,
+    cells: &[Ref],
+    lines: &LineStarts,
+    parts: &[&Part],
+) -> Result<(), NoMemory>
+    requires { ascends lines.now ≡ true }
+    ensures { OnOk result (string_bytes text.new ≡ string_bytes text.old ++ flat_map (spec.part_line names.now cells.now lines.now) (map (λ part. part.now) parts.now)) }
+{
+    for part in parts {
+        push_part(text, names, cells, lines, part)?;
+    }
+    Ok(())
 }

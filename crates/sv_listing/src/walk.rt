@@ -1,65 +1,55 @@
 // The expressions of fragments.
-ghost use Rattle.std.specs.Prelude.{◌≡◌, ◌∷◌, ◌++◌, true, map, OnOk, string_bytes};
-ghost use Rattle.std.specs.List.{flat_map};
+ghost use Rattle.std.specs.Prelude.{◌≡◌, ◌∷◌, ◌++◌, map, OnOk};
 ghost use Rattle.std.specs.Option.{option_to_list};
-ghost use Rattle.sv_lines.specs.Lines.{ascends};
-ghost use Rattle.sv_listing.specs.Listing.{part_line};
 ghost use Rattle.sv_listing.specs.Parts as spec;
 
-use crate::attributes::push_attrs;
-use crate::rows::push_part;
-use sv_ast::{LineStarts, Ref};
-use sv_base::{Names, NoMemory};
-use sv_code::{Frag, FragArm, FragAttrs, Part};
+use crate::attributes::find_in_attrs;
+use crate::found::Parts;
+use sv_base::NoMemory;
+use sv_code::{Frag, FragArm, FragAttr, Part};
 
-/// Appends the lines of the expressions of fragments, one behind the other.
+/// Adds the expressions of fragments to those that were found, where `insides` are those inside of component tags by number.
 #[cycle(walk)]
-pub(crate) fn push_frags(
-    text: &mut String,
-    names: &Names,
-    cells: &[Ref],
-    lines: &LineStarts,
-    frags: &[Frag],
+pub(crate) fn find_in_frags<'a>(
+    found: &mut Parts<'a>,
+    insides: &[Parts<'a>],
+    frags: &'a [Frag],
 ) -> Result<(), NoMemory>
-    requires { ascends lines.now ≡ true }
-    ensures { OnOk result (string_bytes text.new ≡ string_bytes text.old ++ flat_map (part_line names.now cells.now lines.now) (spec.parts frags.now)) }
+    ensures { OnOk result (found.new ≡ found.old ++ spec.parts insides.now frags.now) }
 {
     for frag in frags {
-        push_frag(text, names, cells, lines, frag)?;
+        find_in_frag(found, insides, frag)?;
     }
     Ok(())
 }
 
 #[cycle(walk)]
-fn push_frag(
-    text: &mut String,
-    names: &Names,
-    cells: &[Ref],
-    lines: &LineStarts,
-    frag: &Frag,
+fn find_in_frag<'a>(
+    found: &mut Parts<'a>,
+    insides: &[Parts<'a>],
+    frag: &'a Frag,
 ) -> Result<(), NoMemory>
-    requires { ascends lines.now ≡ true }
-    ensures { OnOk result (string_bytes text.new ≡ string_bytes text.old ++ flat_map (part_line names.now cells.now lines.now) (spec.frag_parts frag.now)) }
+    ensures { OnOk result (found.new ≡ found.old ++ spec.frag_parts insides.now frag.now) }
 {
     match frag {
         Frag::Text(_) => Ok(()),
-        Frag::Show(part) => push_part(text, names, cells, lines, part),
+        Frag::Show(part) => found.push(part),
         Frag::Element {
             attrs,
             children: content,
             ..
         }
-        | Frag::Tag { attrs, content, .. }
         | Frag::Slot {
             attrs,
             own: content,
             ..
-        } => push_tag(text, names, cells, lines, attrs, content.as_slice()),
-        Frag::Named { node, .. } => push_frag(text, names, cells, lines, node.get()),
+        } => find_in_tag(found, insides, attrs.as_slice(), content.as_slice()),
+        Frag::Tag { tag, .. } => find_inside(found, insides, *tag),
+        Frag::Named { node, .. } => find_in_frag(found, insides, node.get()),
         Frag::If { arms, last } => {
-            push_arms(text, names, cells, lines, arms.as_slice())?;
+            find_in_arms(found, insides, arms.as_slice())?;
             match last {
-                Some(last) => push_frags(text, names, cells, lines, last.as_slice()),
+                Some(last) => find_in_frags(found, insides, last.as_slice()),
                 None => Ok(()),
             }
         }
@@ -70,98 +60,89 @@ fn push_frag(
             none,
             ..
         } => {
-            push_row(text, names, cells, lines, list, key, body.as_slice())?;
+            find_in_rows(found, insides, list, key, body.as_slice())?;
             match none {
-                Some(none) => push_frags(text, names, cells, lines, none.as_slice()),
+                Some(none) => find_in_frags(found, insides, none.as_slice()),
                 None => Ok(()),
             }
         }
-        Frag::Key { value, body } => push_headed(text, names, cells, lines, value, body.as_slice()),
+        Frag::Key { value, body } => find_headed(found, insides, value, body.as_slice()),
     }
 }
 
-// A tag: its attributes, and then what is in it.
+/// Adds the expressions of a tag: those of its attributes, and then of its content.
 #[cycle(walk)]
-fn push_tag(
-    text: &mut String,
-    names: &Names,
-    cells: &[Ref],
-    lines: &LineStarts,
-    attrs: &FragAttrs,
-    content: &[Frag],
+pub(crate) fn find_in_tag<'a>(
+    found: &mut Parts<'a>,
+    insides: &[Parts<'a>],
+    attrs: &'a [FragAttr],
+    content: &'a [Frag],
 ) -> Result<(), NoMemory>
-    requires { ascends lines.now ≡ true }
-    ensures { OnOk result (string_bytes text.new ≡ string_bytes text.old ++ flat_map (part_line names.now cells.now lines.now) (spec.in_attrs attrs.now ++ spec.parts content.now)) }
+    ensures { OnOk result (found.new ≡ found.old ++ (spec.in_attrs attrs.now ++ spec.parts insides.now content.now)) }
 {
-    push_attrs(text, names, cells, lines, attrs.as_slice())?;
-    push_frags(text, names, cells, lines, content)
+    find_in_attrs(found, attrs)?;
+    find_in_frags(found, insides, content)
+}
+
+// Those inside of the component's tag with a number.
+fn find_inside<'a>(found: &mut Parts<'a>, insides: &[Parts<'a>], tag: u32) -> Result<(), NoMemory>
+    ensures { OnOk result (found.new ≡ found.old ++ spec.inside_at insides.now tag) }
+{
+    match insides.get(tag as usize) {
+        Some(inside) => found.extend(inside),
+        None => Ok(()),
+    }
 }
 
 // Content behind the expression of its head.
 #[cycle(walk)]
-fn push_headed(
-    text: &mut String,
-    names: &Names,
-    cells: &[Ref],
-    lines: &LineStarts,
-    head: &Part,
-    body: &[Frag],
+fn find_headed<'a>(
+    found: &mut Parts<'a>,
+    insides: &[Parts<'a>],
+    head: &'a Part,
+    body: &'a [Frag],
 ) -> Result<(), NoMemory>
-    requires { ascends lines.now ≡ true }
-    ensures { OnOk result (string_bytes text.new ≡ string_bytes text.old ++ flat_map (part_line names.now cells.now lines.now) (head.now ∷ spec.parts body.now)) }
+    ensures { OnOk result (found.new ≡ found.old ++ head.now ∷ spec.parts insides.now body.now) }
 {
-    push_part(text, names, cells, lines, head)?;
-    push_frags(text, names, cells, lines, body)
+    found.push(head)?;
+    find_in_frags(found, insides, body)
 }
 
 #[cycle(walk)]
-fn push_arms(
-    text: &mut String,
-    names: &Names,
-    cells: &[Ref],
-    lines: &LineStarts,
-    arms: &[FragArm],
+fn find_in_arms<'a>(
+    found: &mut Parts<'a>,
+    insides: &[Parts<'a>],
+    arms: &'a [FragArm],
 ) -> Result<(), NoMemory>
-    requires { ascends lines.now ≡ true }
-    ensures { OnOk result (string_bytes text.new ≡ string_bytes text.old ++ flat_map (part_line names.now cells.now lines.now) (spec.together (map spec.arm_parts arms.now))) }
+    ensures { OnOk result (found.new ≡ found.old ++ spec.together (map (spec.arm_parts insides.now) arms.now)) }
 {
     for arm in arms {
-        push_headed(text, names, cells, lines, &arm.test, arm.body.as_slice())?;
+        find_headed(found, insides, &arm.test, arm.body.as_slice())?;
     }
     Ok(())
 }
 
 // A list with its rows.
 #[cycle(walk)]
-fn push_row(
-    text: &mut String,
-    names: &Names,
-    cells: &[Ref],
-    lines: &LineStarts,
-    list: &Part,
-    key: &Option<Part>,
-    body: &[Frag],
+fn find_in_rows<'a>(
+    found: &mut Parts<'a>,
+    insides: &[Parts<'a>],
+    list: &'a Part,
+    key: &'a Option<Part>,
+    body: &'a [Frag],
 ) -> Result<(), NoMemory>
-    requires { ascends lines.now ≡ true }
-    ensures { OnOk result (string_bytes text.new ≡ string_bytes text.old ++ flat_map (part_line names.now cells.now lines.now) (spec.in_rows list.now key.now (spec.parts body.now))) }
+    ensures { OnOk result (found.new ≡ found.old ++ spec.in_rows list.now key.now (spec.parts insides.now body.now)) }
 {
-    push_part(text, names, cells, lines, list)?;
-    push_key(text, names, cells, lines, key)?;
-    push_frags(text, names, cells, lines, body)
+    found.push(list)?;
+    find_key(found, key)?;
+    find_in_frags(found, insides, body)
 }
 
-fn push_key(
-    text: &mut String,
-    names: &Names,
-    cells: &[Ref],
-    lines: &LineStarts,
-    key: &Option<Part>,
-) -> Result<(), NoMemory>
-    requires { ascends lines.now ≡ true }
-    ensures { OnOk result (string_bytes text.new ≡ string_bytes text.old ++ flat_map (part_line names.now cells.now lines.now) (option_to_list key.now)) }
+fn find_key<'a>(found: &mut Parts<'a>, key: &'a Option<Part>) -> Result<(), NoMemory>
+    ensures { OnOk result (found.new ≡ found.old ++ option_to_list key.now) }
 {
     match key {
-        Some(key) => push_part(text, names, cells, lines, key),
+        Some(key) => found.push(key),
         None => Ok(()),
     }
 }

@@ -1,2 +1,6 @@
 pub mod Does
+pub mod Tops
+pub mod Words
+pub mod Inside
 pub mod Lower
+pub mod Frames

@@ -1,10 +1,11 @@
 // The lists of expressions.
-ghost use Rattle.std.specs.Prelude.{◌≡◌, map, IfOk, OnOk};
-ghost use Rattle.sv_lower.specs.Does.{each};
+ghost use Rattle.std.specs.Prelude.{map};
+ghost use Rattle.sv_lower.specs.Does.{Makes, each};
+ghost use Rattle.sv_lower.specs.Inside.{made_in};
 ghost use Rattle.sv_lower.specs.Lower as spec;
 
 use crate::expressions::{lower_expr, lower_field, lower_item, lower_link};
-use std::alloc::Global;
+use crate::inside::Inside;
 use sv_ast::{Entry, Expr, Field, Link};
 use sv_base::NoMemory;
 use sv_code::{CodeFields, CodeItems, CodeLinks, Codes, Functions};
@@ -12,16 +13,15 @@ use sv_code::{CodeFields, CodeItems, CodeLinks, Codes, Functions};
 /// The code of expressions in turn.
 #[cycle(lower)]
 pub(crate) fn lower_exprs(
-    alloc: Global,
+    inside: &Inside<'_>,
     functions: &mut Functions,
     list: &[Expr],
 ) -> Result<Codes, NoMemory>
-    ensures code { IfOk result (λ code. code ≡ (each (map spec.of_expr list.now) functions.old).0) }
-    ensures functions { OnOk result (functions.new ≡ (each (map spec.of_expr list.now) functions.old).1) }
+    ensures { Makes result (made_in inside.now (each (spec.all (map spec.expr_made list.now))) functions.old) functions.new }
 {
-    let mut codes = Codes::new(alloc);
+    let mut codes = Codes::new(inside.alloc);
     for of in list {
-        codes.push(lower_expr(alloc, functions, of)?)?;
+        codes.push(lower_expr(inside, functions, of)?)?;
     }
     Ok(codes)
 }
@@ -29,16 +29,15 @@ pub(crate) fn lower_exprs(
 /// The code of the items of a list literal.
 #[cycle(lower)]
 pub(crate) fn lower_items(
-    alloc: Global,
+    inside: &Inside<'_>,
     functions: &mut Functions,
     items: &[Entry],
 ) -> Result<CodeItems, NoMemory>
-    ensures code { IfOk result (λ code. code ≡ (each (map spec.of_entry items.now) functions.old).0) }
-    ensures functions { OnOk result (functions.new ≡ (each (map spec.of_entry items.now) functions.old).1) }
+    ensures { Makes result (made_in inside.now (each (spec.all (map spec.entry_made items.now))) functions.old) functions.new }
 {
-    let mut codes = CodeItems::new(alloc);
+    let mut codes = CodeItems::new(inside.alloc);
     for item in items {
-        codes.push(lower_item(alloc, functions, item)?)?;
+        codes.push(lower_item(inside, functions, item)?)?;
     }
     Ok(codes)
 }
@@ -46,16 +45,15 @@ pub(crate) fn lower_items(
 /// The code of the fields of an object literal.
 #[cycle(lower)]
 pub(crate) fn lower_fields(
-    alloc: Global,
+    inside: &Inside<'_>,
     functions: &mut Functions,
     fields: &[Field],
 ) -> Result<CodeFields, NoMemory>
-    ensures code { IfOk result (λ code. code ≡ (each (map spec.of_field fields.now) functions.old).0) }
-    ensures functions { OnOk result (functions.new ≡ (each (map spec.of_field fields.now) functions.old).1) }
+    ensures { Makes result (made_in inside.now (each (spec.all (map spec.field_made fields.now))) functions.old) functions.new }
 {
-    let mut codes = CodeFields::new(alloc);
+    let mut codes = CodeFields::new(inside.alloc);
     for of in fields {
-        codes.push(lower_field(alloc, functions, of)?)?;
+        codes.push(lower_field(inside, functions, of)?)?;
     }
     Ok(codes)
 }
@@ -63,16 +61,15 @@ pub(crate) fn lower_fields(
 /// The code of the operators of a chain.
 #[cycle(lower)]
 pub(crate) fn lower_links(
-    alloc: Global,
+    inside: &Inside<'_>,
     functions: &mut Functions,
     links: &[Link],
 ) -> Result<CodeLinks, NoMemory>
-    ensures code { IfOk result (λ code. code ≡ (each (map spec.of_link links.now) functions.old).0) }
-    ensures functions { OnOk result (functions.new ≡ (each (map spec.of_link links.now) functions.old).1) }
+    ensures { Makes result (made_in inside.now (each (spec.all (map spec.link_made links.now))) functions.old) functions.new }
 {
-    let mut codes = CodeLinks::new(alloc);
+    let mut codes = CodeLinks::new(inside.alloc);
     for link in links {
-        codes.push(lower_link(alloc, functions, link)?)?;
+        codes.push(lower_link(inside, functions, link)?)?;
     }
     Ok(codes)
 }

@@ -1,2 +1,3 @@
 pub mod Distinct
 pub mod Uses
+pub mod Locals

@@ -196,7 +196,21 @@ stmt_kind_parts = fold-StmtKind Parts Found Found Found Parts Found Parts Found 
 abbrev pub stmt_parts : Stmt → Parts
 stmt_parts = fold-Stmt Parts Found Found Found Parts Found Parts Found Found Parts body entry expr_kind field stmt_kind arm decl expr link stmt
 
+-- ---- scopes
+
+-- the names of a function or an arrow with some parameters, or of a block, which has none: each once
+abbrev pub scope_of : List Named → Parts → List Ref
+scope_of params parts = firsts (map named params ++ parts.declares)
+
+-- the names of the head of a `for`, each once
+abbrev pub head_of : Option Stmt → List Ref
+head_of first = firsts (optional (option_map stmt_parts first)).declares
+
 -- ---- names by first appearance
+
+-- the names that stand free in a function or an arrow with some parameters
+abbrev pub free_in : List Named → Parts → List Ref
+free_in params parts = firsts (map (λ u. u.name) (inside (map named params) parts []))
 
 -- the names that stand free in an expression
 abbrev pub free_names : Expr → List Ref

@@ -4,9 +4,9 @@ ghost use Rattle.sv_names.specs.Distinct.{firsts};
 ghost use Rattle.sv_names.specs.Uses as spec;
 
 use crate::once::Distinct;
-use crate::uses::{Use, Walk, find, find_stmt};
+use crate::uses::{Use, Walk, find, find_arrow, find_block, find_stmt};
 use std::alloc::Global;
-use sv_ast::{Expr, RefList, Stmt};
+use sv_ast::{Body, Expr, Named, RefList, Stmt};
 use sv_base::NoMemory;
 use sv_list::Items;
 
@@ -17,6 +17,24 @@ pub fn free_names(alloc: Global, e: &Expr) -> Result<RefList, NoMemory>
 {
     let mut walk = start(alloc);
     find(&mut walk, e)?;
+    names_of(alloc, walk.uses.as_slice())
+}
+
+/// The names that stand free in an arrow with some parameters, by first appearance, each once. `NoMemory` comes at want of memory alone.
+pub fn names_in_arrow(alloc: Global, params: &[Named], body: &Body) -> Result<RefList, NoMemory>
+    ensures { IfOk result (λ names. names ≡ spec.free_in params.now (spec.body_parts body.now)) }
+{
+    let mut walk = start(alloc);
+    find_arrow(&mut walk, params, body)?;
+    names_of(alloc, walk.uses.as_slice())
+}
+
+/// The names that stand free in a function with some parameters, by first appearance, each once. `NoMemory` comes at want of memory alone.
+pub fn names_in_block(alloc: Global, params: &[Named], stmts: &[Stmt]) -> Result<RefList, NoMemory>
+    ensures { IfOk result (λ names. names ≡ spec.free_in params.now (spec.together (map spec.stmt_parts stmts.now))) }
+{
+    let mut walk = start(alloc);
+    find_block(&mut walk, params, stmts)?;
     names_of(alloc, walk.uses.as_slice())
 }
 

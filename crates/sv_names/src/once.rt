@@ -1,12 +1,15 @@
 // Names, each once.
-ghost use Rattle.std.specs.Prelude.{◌≡◌, ◌≤◌, [], length, take, IfOk, OnOk, OnErr};
+ghost use Rattle.std.specs.Prelude.{◌≡◌, ◌≤◌, [], length, map, take, IfOk, OnOk, OnErr};
 ghost use Rattle.sv_names.specs.Distinct.{has, with_name};
+ghost use Rattle.sv_names.specs.Locals.{name_of as spec_name_of};
 
+use crate::locals::name_of;
 use indexmap::IndexSet;
 use std::alloc::Global;
 use std::marker::Model;
 use sv_ast::{Ref, RefList};
-use sv_base::NoMemory;
+use sv_base::{Name, NoMemory};
+use sv_list::Items;
 
 /// Names, each once, in the order in which they were put in. A clause sees it as the list of them.
 #[derive(Drop)]
@@ -61,6 +64,17 @@ impl Distinct {
         ensures { self.new ≡ take count self.old }
     {
         self.names.truncate(count);
+    }
+
+    /// The names as they are written, without their `$`.
+    pub fn to_names(&self, alloc: Global) -> Result<Items<Name>, NoMemory>
+        ensures { IfOk result (λ list. list ≡ map spec_name_of self.now) }
+    {
+        let mut list = Items::new(alloc);
+        for name in self.names.as_slice() {
+            list.push(name_of(*name))?;
+        }
+        Ok(list)
     }
 
     /// The names as a list.

@@ -1,9 +1,10 @@
 // What a scope declares.
-ghost use Rattle.std.specs.Prelude.{◌≡◌, [], ◌∷◌, map, option_map, OnOk};
+ghost use Rattle.std.specs.Prelude.{◌≡◌, [], ◌∷◌, map, option_map, IfOk, OnOk};
 ghost use Rattle.sv_names.specs.Distinct.{with_names};
-ghost use Rattle.sv_names.specs.Uses.{named, imported, optional, together, body_parts, decl_parts, stmt_parts, stmt_kind_parts};
+ghost use Rattle.sv_names.specs.Uses.{named, imported, optional, together, scope_of, head_of, body_parts, decl_parts, stmt_parts, stmt_kind_parts};
 
 use crate::once::Distinct;
+use std::alloc::Global;
 use sv_ast::{Body, Decl, Import, Named, Ref, Spec, Stmt, StmtKind};
 use sv_base::NoMemory;
 
@@ -109,4 +110,36 @@ pub(crate) fn declare_optional(scope: &mut Distinct, stmt: &Option<Stmt>) -> Res
         Some(stmt) => declare_stmt(scope, stmt),
         None => Ok(()),
     }
+}
+
+/// The names of an arrow with some parameters, each once: those, and what its body declares. `NoMemory` comes at want of memory alone.
+#[tactic(auto, using(crate::proofs::Names::with_names_append))]
+pub fn arrow_scope(alloc: Global, params: &[Named], body: &Body) -> Result<Distinct, NoMemory>
+    ensures { IfOk result (λ names. names ≡ scope_of params.now (body_parts body.now)) }
+{
+    let mut names = Distinct::new(alloc);
+    declare_all(&mut names, params)?;
+    declare_body(&mut names, body)?;
+    Ok(names)
+}
+
+/// The names of a function with some parameters, or of a block, which has none, each once: those, and what its statements declare. `NoMemory`
+/// comes at want of memory alone.
+#[tactic(auto, using(crate::proofs::Names::with_names_append))]
+pub fn block_scope(alloc: Global, params: &[Named], stmts: &[Stmt]) -> Result<Distinct, NoMemory>
+    ensures { IfOk result (λ names. names ≡ scope_of params.now (together (map stmt_parts stmts.now))) }
+{
+    let mut names = Distinct::new(alloc);
+    declare_all(&mut names, params)?;
+    declare_stmts(&mut names, stmts)?;
+    Ok(names)
+}
+
+/// The names that the head of a `for` declares, each once. `NoMemory` comes at want of memory alone.
+pub fn head_scope(alloc: Global, first: &Option<Stmt>) -> Result<Distinct, NoMemory>
+    ensures { IfOk result (λ names. names ≡ head_of first.now) }
+{
+    let mut names = Distinct::new(alloc);
+    declare_optional(&mut names, first)?;
+    Ok(names)
 }

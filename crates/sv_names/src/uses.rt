@@ -192,8 +192,9 @@ fn find_given(walk: &mut Walk, of: &Option<Expr>) -> Result<(), NoMemory>
     }
 }
 
+/// Finds the free uses in an arrow.
 #[cycle(walk)]
-fn find_arrow(walk: &mut Walk, params: &[Named], body: &Body) -> Result<(), NoMemory>
+pub(crate) fn find_arrow(walk: &mut Walk, params: &[Named], body: &Body) -> Result<(), NoMemory>
     ensures scope { OnOk result (walk.new.scope ≡ walk.old.scope) }
     ensures uses { OnOk result (walk.new.uses ≡ walk.old.uses ++ spec.inside (map spec.named params.now) (spec.body_parts body.now) walk.old.scope) }
 {
@@ -281,9 +282,9 @@ fn find_stmt_kind(walk: &mut Walk, kind: &StmtKind) -> Result<(), NoMemory>
     }
 }
 
-// The uses in the body of a function, or in a block, which has no parameters.
+/// Finds the free uses in a function, or in a block, which has no parameters.
 #[cycle(walk)]
-fn find_block(walk: &mut Walk, params: &[Named], stmts: &[Stmt]) -> Result<(), NoMemory>
+pub(crate) fn find_block(walk: &mut Walk, params: &[Named], stmts: &[Stmt]) -> Result<(), NoMemory>
     ensures scope { OnOk result (walk.new.scope ≡ walk.old.scope) }
     ensures uses { OnOk result (walk.new.uses ≡ walk.old.uses ++ spec.inside (map spec.named params.now) (spec.together (map spec.stmt_parts stmts.now)) walk.old.scope) }
 {

@@ -1,6 +1,6 @@
--- What content looks at: what its parts look at, `on:` among them, and its `<slot>`s, but for what it declares itself: the names of rows
--- are those of the row's key and content, and `let:` names are those of the content for their slot alone (Svelte 4 docs, '{#each}' and
--- '<slot key={value}>').
+-- What content looks at: what its parts and handlers look at, and its `<slot>`s and component tags, but for what it declares itself: the
+-- names of rows are those of the row's key and content, and `let:` names are those of the content for their slot alone (Svelte 4 docs,
+-- '{#each}' and '<slot key={value}>').
 use Rattle.std.specs.Prelude.{◌≡◌, ℕ, zero, suc, nat_eq, Bool, true, false, not, List, [], ◌∷◌, ◌++◌, Option, None, Some, map, option_map, filter, if◌then◌else◌}
 use Rattle.std.specs.List.{list_any}
 use Rattle.std.specs.Option.{option_to_list}
@@ -19,7 +19,8 @@ use Rattle.sv_code.specs.declared.fragments.LetName.{LetName}
 use Rattle.sv_code.specs.declared.parts.Part.{Part}
 use Rattle.sv_code.specs.declared.parts.Reading.{Reading}
 use Rattle.sv_names.specs.Distinct.{has, firsts}
-use Rattle.sv_reads.specs.Reading.{name_of, number_if}
+use Rattle.sv_names.specs.Locals.{name_of}
+use Rattle.sv_reads.specs.Reading.{number_if}
 use Rattle.sv_reads.specs.declared.looks.Seen.{Seen}
 
 -- cells by number, and locals that something else declares
@@ -86,7 +87,7 @@ value (Parts parts) = in_turn (map value_part parts)
 
 abbrev pub attr : FragAttr → Looks
 attr (PlainAttr span name shown) = value shown
-attr (On span name modifiers handler) = given (option_map part handler)
+attr (On handler reads) = read reads
 attr (Bind span name target) = part target
 attr (Class span name test) = part test
 
@@ -113,7 +114,7 @@ abbrev pub frag : Frag-F Node Looks → Node
 frag (Frag-F.Text text) = plain nothing
 frag (Frag-F.Show shown) = plain (part shown)
 frag (Frag-F.Element span name list children) = plain (both (attrs list) (nodes children))
-frag (Frag-F.Tag span file list lets content reads) = plain (both (attrs list) (read reads))
+frag (Frag-F.Tag tag reads) = plain (read reads)
 frag (Frag-F.Named slot lets node) = record { named = true; looks = within (let_names lets) node.looks }
 frag (Frag-F.Slot span name list own reads) = plain (both (read reads) (both (attrs list) (nodes own)))
 frag (Frag-F.If arms last) = plain (both (in_turn arms) (given (option_map nodes last)))
@@ -146,6 +147,14 @@ abbrev pub among_from : ℕ → ℕ → List ℕ → List ℕ
 among_from n zero numbers = []
 among_from n (suc count) numbers = number_if (list_any (nat_eq n) numbers) n ++ among_from (suc n) count numbers
 
--- what content looks at, where its component has so many cells: these by number, each once, and locals by first appearance
+-- what was looked at, where its component has so many cells: these by number, each once, and locals by first appearance
+abbrev pub gathered : ℕ → Looked → Reading
+gathered count looked = record { cells = among_from 0 count looked.cells; locals = map name_of (firsts looked.locals) }
+
+-- what content looks at, in whose default part slot props have names
 abbrev pub looked_at : ℕ → List LetName → List Frag → Reading
-looked_at count lets list = let looked = content (let_names lets) list [] in record { cells = among_from 0 count looked.cells; locals = map name_of (firsts looked.locals) }
+looked_at count lets list = gathered count (content (let_names lets) list [])
+
+-- what a component's tag looks at: what its attributes and its content do
+abbrev pub tag_looks : ℕ → List FragAttr → Reading → Reading
+tag_looks count list reads = gathered count (both (attrs list) (read reads) [])

@@ -1,11 +1,10 @@
 -- What some names look at, where a component has some cells, and rows and slot props round the place declare some locals: a local hides a
 -- cell of its name, and what is neither never changes.
-use Rattle.std.specs.Prelude.{ℕ, suc, Bool, not, List, [], ◌∷◌, ◌++◌, map, filter, if◌then◌else◌}
+use Rattle.std.specs.Prelude.{ℕ, suc, Bool, not, List, [], ◌∷◌, ◌++◌, filter, if◌then◌else◌}
 use Rattle.sv_ast.specs.declared.names.Ref.{Ref}
-use Rattle.sv_ast.specs.declared.names.Ref.TheVariants.{Plain, Store}
-use Rattle.sv_base.specs.declared.names.Name.{Name}
 use Rattle.sv_code.specs.declared.parts.Reading.{Reading}
 use Rattle.sv_names.specs.Distinct.{has}
+use Rattle.sv_names.specs.Locals.{locals_among}
 
 -- a number, if it is wanted
 abbrev pub number_if : Bool → ℕ → List ℕ
@@ -20,12 +19,7 @@ numbers_from n (cell ∷ cells) names = number_if (has cell names) n ++ numbers_
 abbrev pub numbers : List Ref → List Ref → List ℕ
 numbers cells names = numbers_from 0 cells names
 
--- the name that is written, behind the `$` of a store name
-abbrev pub name_of : Ref → Name
-name_of (Plain name) = name
-name_of (Store name) = name
-
 -- what some names look at
 abbrev pub reading : List Ref → List Ref → List Ref → Reading
 reading cells locals names =
-    record { cells = numbers cells (filter (λ name. not (has name locals)) names); locals = map name_of (filter (λ name. has name locals) names) }
+    record { cells = numbers cells (filter (λ name. not (has name locals)) names); locals = locals_among locals names }

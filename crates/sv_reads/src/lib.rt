@@ -5,6 +5,5 @@ mod around;
 mod looks;
 mod names;
 
-pub use around::LocalScope;
-pub use looks::looked_at;
+pub use looks::{looked_at, tag_looks};
 pub use names::{numbers, reading};

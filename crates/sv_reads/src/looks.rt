@@ -3,19 +3,18 @@ ghost use Rattle.std.specs.Prelude.{◌≡◌, ◌≤◌, ◌++◌, List, [], ma
 ghost use Rattle.std.specs.List.{list_any};
 ghost use Rattle.sv_ast.specs.declared.names.Ref.{Ref as AnyRef};
 ghost use Rattle.sv_names.specs.Distinct.{firsts};
-ghost use Rattle.sv_reads.specs.Reading.{name_of as spec_name_of};
+ghost use Rattle.sv_names.specs.Locals.{name_of as spec_name_of, names_of};
 ghost use Rattle.sv_reads.specs.Looks as spec;
-ghost use Rattle.sv_reads.specs.Around.{names_of};
 
-use crate::around::{LocalScope, is_local, let_names, row_names};
-use crate::names::{add_if, name_of};
+use crate::around::{let_names, row_names};
+use crate::names::add_if;
 use std::alloc::Global;
 use sv_ast::{Ref, RefList};
 use sv_base::{Name, NoMemory};
 use sv_code::{
     CellList, Frag, FragArm, FragAttr, FragValue, FragValuePart, LetName, Locals, Part, Reading,
 };
-use sv_names::Distinct;
+use sv_names::{Distinct, LocalScope, is_local, name_of};
 
 // What was found so far, in the order of the text: numbers of cells, and locals.
 #[derive(Drop)]
@@ -25,8 +24,8 @@ struct Seen {
 }
 
 /// What the content of a component's tag looks at, where its default content has some names and the component that it stands in has
-/// `count` cells: the cells by number and the locals of its parts and handlers, but for the names of its own rows and slot props, and the
-/// owner's view, where it has a `<slot>`. `NoMemory` comes at want of memory alone.
+/// `count` cells: the cells by number and the locals of its parts, handlers and tags, but for the names of its own rows and slot props, and
+/// the owner's view, where it has a `<slot>`. `NoMemory` comes at want of memory alone.
 pub fn looked_at(
     alloc: Global,
     count: usize,
@@ -37,11 +36,42 @@ pub fn looked_at(
     ensures { IfOk result (λ reading. reading ≡ spec.looked_at count lets.now content.now) }
 {
     let names = let_names(alloc, lets)?;
-    let mut seen = Seen {
+    let mut seen = nothing(alloc);
+    find_content(alloc, &mut seen, &names, content)?;
+    gathered(alloc, count, &seen)
+}
+
+/// What a component's tag looks at, in a component that has `count` cells: what its attributes and its content do. `NoMemory` comes at
+/// want of memory alone.
+pub fn tag_looks(
+    alloc: Global,
+    count: usize,
+    attrs: &[FragAttr],
+    content: &Reading,
+) -> Result<Reading, NoMemory>
+    requires { count ≤ 256 }
+    ensures { IfOk result (λ reading. reading ≡ spec.tag_looks count attrs.now content.now) }
+{
+    let mut seen = nothing(alloc);
+    find_attrs(&mut seen, &LocalScope::Outside, attrs)?;
+    find_reads(&mut seen, &LocalScope::Outside, content)?;
+    gathered(alloc, count, &seen)
+}
+
+fn nothing(alloc: Global) -> Seen
+    ensures { result ≡ record { cells = []; locals = [] } }
+{
+    Seen {
         cells: CellList::new(alloc),
         locals: RefList::new(alloc),
-    };
-    find_content(alloc, &mut seen, &names, content)?;
+    }
+}
+
+// Cells by number, each once, and locals by first appearance.
+fn gathered(alloc: Global, count: usize, seen: &Seen) -> Result<Reading, NoMemory>
+    requires { count ≤ 256 }
+    ensures { IfOk result (λ reading. reading ≡ spec.gathered count (record { cells = seen.now.cells; locals = seen.now.locals })) }
+{
     Ok(Reading {
         cells: in_order(alloc, count, seen.cells.as_slice())?,
         locals: each_once(alloc, seen.locals.as_slice())?,
@@ -148,10 +178,7 @@ fn find_node(
             find_attrs(seen, own, attrs.as_slice())?;
             find_nodes(alloc, seen, own, children.as_slice())
         }
-        Frag::Tag { attrs, reads, .. } => {
-            find_attrs(seen, own, attrs.as_slice())?;
-            find_reads(seen, own, reads)
-        }
+        Frag::Tag { reads, .. } => find_reads(seen, own, reads),
         Frag::Named { lets, node, .. } => {
             find_named(alloc, seen, own, lets.as_slice(), node.get())
         }
@@ -300,7 +327,7 @@ fn find_attr(seen: &mut Seen, own: &LocalScope<'_>, attr: &FragAttr) -> Result<(
 {
     match attr {
         FragAttr::Plain { value, .. } => find_value(seen, own, value),
-        FragAttr::On { handler, .. } => find_optional(seen, own, handler),
+        FragAttr::On { reads, .. } => find_reads(seen, own, reads),
         FragAttr::Bind { target, .. } => find_part(seen, own, target),
         FragAttr::Class { test, .. } => find_part(seen, own, test),
     }

@@ -1,14 +1,14 @@
 // What names look at.
-ghost use Rattle.std.specs.Prelude.{◌≡◌, ◌≤◌, ◌++◌, not, length, map, filter, IfOk, OnOk};
+ghost use Rattle.std.specs.Prelude.{◌≡◌, ◌≤◌, ◌++◌, not, length, filter, IfOk, OnOk};
 ghost use Rattle.sv_names.specs.Distinct.{has};
-ghost use Rattle.sv_reads.specs.Around.{names_of};
+ghost use Rattle.sv_names.specs.Locals.{names_of};
 ghost use Rattle.sv_reads.specs.Reading as spec;
 
-use crate::around::{LocalScope, is_local};
 use std::alloc::Global;
 use sv_ast::{Ref, RefList};
-use sv_base::{Name, NoMemory};
-use sv_code::{CellList, Locals, Reading};
+use sv_base::NoMemory;
+use sv_code::{CellList, Reading};
+use sv_names::{LocalScope, is_local, locals_among};
 
 /// What some names look at: the cells of these names by number, but for those that a local hides, and the locals of these names, in their
 /// order. `cells` are those of the component, at most 256, and `locals` the scopes of markup round the place. `NoMemory` comes at want of memory alone.
@@ -41,28 +41,6 @@ fn others(alloc: Global, locals: &LocalScope<'_>, names: &[Ref]) -> Result<RefLi
         }
     }
     Ok(others)
-}
-
-// The locals among some names.
-fn locals_among(alloc: Global, locals: &LocalScope<'_>, names: &[Ref]) -> Result<Locals, NoMemory>
-    ensures { IfOk result (λ own. own ≡ map spec.name_of (filter (λ name. has name (names_of locals.now)) names.now)) }
-{
-    let mut own = Locals::new(alloc);
-    for name in names {
-        if is_local(locals, *name) {
-            own.push(name_of(*name))?;
-        }
-    }
-    Ok(own)
-}
-
-/// The name that is written, behind the `$` of a store name.
-pub(crate) fn name_of(name: Ref) -> Name
-    ensures { result ≡ spec.name_of name }
-{
-    match name {
-        Ref::Plain(name) | Ref::Store(name) => name,
-    }
 }
 
 /// The numbers of the cells that are among some names, ascending. `cells` are those of the component, at most 256. `NoMemory` comes at want

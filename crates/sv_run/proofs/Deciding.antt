@@ -1,5 +1,5 @@
 -- What has been learned of the files, and what it calls for.
-use Rattle.std.proofs.Common.{◌≡◌, ◌<◌, ℕ, List, length, Option, refl, sym, ap, subst, ◌∙◌}
+use Rattle.std.proofs.Common.{◌≡◌, ◌<◌, ℕ, List, [], length, Option, refl, sym, ap, subst, ◌∙◌}
 use Rattle.std.specs.Prelude.{Some, None, Result, Ok, Err, IfOk, IfSome, slice_get}
 use Rattle.std.proofs.lemmas.Option.{none-some, slice_get_within}
 use Rattle.sv_ast.specs.declared.files.Bundle.{Bundle}
@@ -101,9 +101,9 @@ pub calls-unfit_too : (o : Option Files) (root : List ℕ) (answer : Answer) →
 calls-unfit_too o root answer = some_weaker o (λ files is. unfit_too answer is)
 
 pub calls-compiled : (o : Option Files) (root : List ℕ) (bundle other : Bundle) (all : List CheckedComponent) (answer : Answer) → IsClean bundle → other ≡ bundle → AreChecked bundle all
-    → answer ≡ listed (listing (program other all)) → IfSome o (λ files. Loads files root (Ok bundle)) → IfSome o (λ files. IsPrinted files root answer)
+    → answer ≡ listed (listing (program other all [])) → IfSome o (λ files. Loads files root (Ok bundle)) → IfSome o (λ files. IsPrinted files root answer)
 calls-compiled o root bundle other all answer is same checked told = some_weaker o (λ files loads.
-    subst (IsPrinted files root) (sym (told ∙ ap (λ b. listed (listing (program b all))) same)) (compiled bundle all loads is checked))
+    subst (IsPrinted files root) (sym (told ∙ ap (λ b. listed (listing (program b all []))) same)) (compiled bundle all loads is checked))
 
 -- the file of a mistake is there
 pub file_of_mistake : (bundle : Bundle) (m : CheckRefusal) → IsFirstMistake bundle m → (file : SourceFile) × (slice_get bundle.files m.at.file ≡ Some file)

@@ -154,8 +154,8 @@ IsPrinted-unique laws files root _ _ (unfit_too a is) (compiled bundle told r c 
 IsPrinted-unique laws files root _ _ (compiled bundle told r c t) (unfit_too b is) = unfit-or-clean laws files root b bundle is r c
 IsPrinted-unique laws files root _ _ (compiled bundle told r c t) (compiled bundle' told' r' c' t') =
     let same : bundle' ≡ bundle = one_bundle laws files root bundle' bundle r' r in
-    let own = laws.programs bundle told told' t (subst (λ z. AreChecked z told') same t') in
-    ap (λ p. listed (listing p)) own ∙ ap (λ z. listed (listing (program z told'))) (sym same)
+    let own = laws.programs bundle told told' t (subst (λ z. AreChecked z told') same t') [] in
+    ap (λ p. listed (listing p)) own ∙ ap (λ z. listed (listing (program z told' []))) (sym same)
 
 -- ---- all words
 

@@ -109,11 +109,12 @@ pub data IsChecked (files : Files) (root : List ℕ) : Answer → Type 0 where
   unfit : (answer : Answer) → IsUnfit files root answer → IsChecked files root answer
   clean : (bundle : Bundle) → Reads files root no_files (Ok bundle) → IsClean bundle → IsChecked files root accepted
 
--- What `print ROOT` answers: where there is no mistake, the listing of what the program is compiled to.
+-- What `print ROOT` answers: where there is no mistake, the listing of what the program is compiled to. The
+-- order in which modules run isn't listed.
 pub data IsPrinted (files : Files) (root : List ℕ) : Answer → Type 0 where
   unfit_too : (answer : Answer) → IsUnfit files root answer → IsPrinted files root answer
   compiled : (bundle : Bundle) (told : List CheckedComponent) → Reads files root no_files (Ok bundle) → IsClean bundle → AreChecked bundle told
-      → IsPrinted files root (listed (listing (program bundle told)))
+      → IsPrinted files root (listed (listing (program bundle told [])))
 
 -- the cause of each answer
 pub data IsAnswer (words : List (List ℕ)) (files : Files) : Answer → Type 0 where

@@ -1,5 +1,5 @@
 // What `check ROOT` and `print ROOT` ask for.
-ghost use Rattle.std.specs.Prelude.{◌≡◌, ◌≢◌, ◌≤◌, ◌<◌, Some, length, slice_get, string_bytes, IfOk, IfSome};
+ghost use Rattle.std.specs.Prelude.{[], ◌≡◌, ◌≢◌, ◌≤◌, ◌<◌, Some, length, slice_get, string_bytes, IfOk, IfSome};
 ghost use Rattle.sv_ast.specs.declared.files.SourceFile.{SourceFile as AnySource};
 ghost use Rattle.sv_check.specs.Checked.{AreChecked, IsCause};
 ghost use Rattle.sv_compile.specs.Compile.{program as program_of};
@@ -62,7 +62,7 @@ pub fn decide_print<F: Shelf>(alloc: Global, root: &str, shelf: &mut F) -> Resul
 fn listed(alloc: Global, checked: &Checked<'_>) -> Result<Job, ShelfError>
     requires checked { AreChecked checked.now.bundle.now checked.now.components }
     requires lines { LinesAscend checked.now.bundle.now.files }
-    ensures answer { IfOk result (λ job. answer_of job ≡ listed_text (listing_of (program_of checked.now.bundle.now checked.now.components))) }
+    ensures answer { IfOk result (λ job. answer_of job ≡ listed_text (listing_of (program_of checked.now.bundle.now checked.now.components []))) }
     ensures playable { IfOk result IsPlayable }
     ensures failed { result ≢ Err ShelfError.Failed }
 {

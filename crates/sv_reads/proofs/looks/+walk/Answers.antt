@@ -1,5 +1,5 @@
 use Rattle.std.proofs.lemmas.Result.{on_ok_weaker}
-use Rattle.sv_reads.specs.Around.{names_of}
+use Rattle.sv_names.specs.Locals.{names_of}
 use Rattle.sv_reads.proofs.Onward.{if_on, each_on, finds_absent, finds_present}
 use Rattle.sv_reads.proofs.looks.+walk.Goals as goal
 

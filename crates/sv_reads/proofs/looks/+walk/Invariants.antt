@@ -1,5 +1,5 @@
 use Rattle.std.proofs.Common.{map, drop}
-use Rattle.sv_reads.specs.Around.{names_of}
+use Rattle.sv_names.specs.Locals.{names_of}
 use Rattle.sv_reads.specs.Looks.{nodes, node, in_turn, arm_looks}
 use Rattle.sv_reads.proofs.Onward.{Onward}
 use Rattle.sv_reads.proofs.looks.+walk.Given as goal

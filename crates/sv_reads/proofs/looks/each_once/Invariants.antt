@@ -1,6 +1,6 @@
 use Rattle.std.proofs.Common.{◌≡◌, map, drop}
 use Rattle.sv_names.specs.Distinct.{firsts, with_names}
-use Rattle.sv_reads.specs.Reading.{name_of}
+use Rattle.sv_names.specs.Locals.{name_of}
 use Rattle.sv_reads.proofs.looks.each_once.Given as goal
 
 abbrev pub invariant-loop-name : goal.invariant-loop-name

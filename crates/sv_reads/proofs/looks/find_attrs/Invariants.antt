@@ -1,5 +1,5 @@
 use Rattle.std.proofs.Common.{drop}
-use Rattle.sv_reads.specs.Around.{names_of}
+use Rattle.sv_names.specs.Locals.{names_of}
 use Rattle.sv_reads.specs.Looks.{attrs}
 use Rattle.sv_reads.proofs.Onward.{Onward}
 use Rattle.sv_reads.proofs.looks.find_attrs.Given as goal

@@ -1,7 +1,7 @@
 use Rattle.std.proofs.Common.{◌≡◌, take, not}
 use Rattle.std.specs.Prelude.{filter}
 use Rattle.sv_names.specs.Distinct.{has}
-use Rattle.sv_reads.specs.Around.{names_of}
+use Rattle.sv_names.specs.Locals.{names_of}
 use Rattle.sv_reads.proofs.names.others.Given as goal
 
 abbrev pub invariant-loop-name : goal.invariant-loop-name

@@ -1,0 +1,68 @@
+// What the top of a file has.
+ghost use Rattle.std.specs.Prelude.{◌≡◌, [], IfOk, OnOk};
+ghost use Rattle.sv_lower.specs.Tops as spec;
+ghost use Rattle.sv_lower.specs.Words.{words as spec_words};
+
+use crate::words::{Word, method_of, words};
+use indexmap::IndexMap;
+use std::alloc::Global;
+use std::marker::Model;
+use sv_ast::Ref;
+use sv_base::{Name, Names, NoMemory};
+use sv_code::{Known, Property};
+use sv_list::Items;
+
+/// What names stand for at the top of a file, and what words mean behind a point. A clause sees it as the list of both.
+#[derive(Drop)]
+pub struct TopNames {
+    known: IndexMap<Ref, Known>,
+    words: Items<Word>,
+}
+
+impl Model for TopNames {
+    ghost use Rattle.sv_lower.specs.Tops.{Tops};
+
+    ghost Value = { Tops };
+
+    ghost view = { λ t. record { known = t.known.entries; words = t.words } };
+}
+
+impl TopNames {
+    /// No names, in a program of which these are all names. `NoMemory` comes at want of memory alone.
+    pub fn new(alloc: Global, names: &Names) -> Result<TopNames, NoMemory>
+        ensures { IfOk result (λ tops. tops ≡ record { known = []; words = spec_words names.now }) }
+    {
+        Ok(TopNames {
+            known: IndexMap::new(alloc),
+            words: words(alloc, names)?,
+        })
+    }
+
+    /// A name stands for this, unless it stands for something already.
+    pub fn add(&mut self, name: Ref, known: Known) -> Result<(), NoMemory>
+        ensures { OnOk result (self.new ≡ record self.old { known = spec.with_known self.old.known (name, known) }) }
+    {
+        if !self.known.contains_key(&name) {
+            self.known.insert(name, known)?;
+        }
+        Ok(())
+    }
+
+    /// What a name stands for, if it stands for something.
+    #[tactic(auto, using(crate::proofs::Naming::lookup_known))]
+    pub fn get(&self, name: Ref) -> Option<Known>
+        ensures { result ≡ spec.known_in self.now.known name }
+    {
+        self.known.get(&name).copied()
+    }
+
+    /// What a word means behind a point.
+    pub(crate) fn property(&self, name: Name) -> Property
+        ensures { result ≡ spec.property self.now name }
+    {
+        Property {
+            name,
+            method: method_of(self.words.as_slice(), name),
+        }
+    }
+}
