@@ -148,6 +148,7 @@ impl List {
         ensures value { vals (map view_of result.now) ≡ self.now }
         ensures list { map view_of result.now ≡ items self.now }
         ensures few { length result.now < VALUE_SIZE_LIMIT }
+        ensures small { sizes self.now < VALUE_SIZE_LIMIT }
     {
         self.shared.as_slice()
     }

@@ -1,0 +1,11 @@
+pub mod Answer
+pub mod Numbers
+pub mod Compare
+pub mod White
+pub mod Texts
+pub mod Operators
+pub mod Members
+pub mod Lists
+pub mod Visits
+pub mod Math
+pub mod Answers
