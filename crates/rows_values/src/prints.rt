@@ -6,8 +6,7 @@ ghost use Rattle.sv_tokens.specs.Token.{opens, texts};
 use crate::pages::{add_text, give, lay, page_of, push_element, push_text};
 use std::alloc::Global;
 use sv_base::{NoMemory, Text};
-use sv_dom::{Attr, Dom, Node, Typed};
-use sv_html::print;
+use sv_dom::{Attr, Dom, Node, Typed, print};
 
 // A page as it is printed, with the numbers that its nodes have.
 fn printed(alloc: Global, dom: &Dom) -> Result<String, NoMemory> {

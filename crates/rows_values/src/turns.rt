@@ -1,11 +1,10 @@
-// Steps of scenes that have to do with what is left with instances, with a flush and with a turn.
+// Steps of scenes that have to do with what is left with instances, and with a turn.
 use crate::scenes::{Scene, literal, number, shown, two};
 use crate::views;
 use sv_base::{NoMemory, Text};
-use sv_instance::{Bound, When};
+use sv_instance::When;
 use sv_rows::{push_part, yes_or_no};
 use sv_value::{Inst, Key};
-use sv_world::{Binding, Waiting};
 
 /// What is left with instances.
 pub fn happens(scene: &mut Scene, verb: &str, rest: &str) -> Result<String, NoMemory> {
@@ -75,7 +74,7 @@ fn tag(scene: &mut Scene, verb: &str, rest: &str) -> Result<String, NoMemory> {
             }
             None => scene.word("none"),
         },
-        _ => flush(scene, verb, rest),
+        _ => turn(scene, verb, rest),
     }
 }
 
@@ -94,88 +93,6 @@ fn when_of(word: &str) -> When {
         "after" => When::After,
         "destroy" => When::Destroy,
         _ => When::Returned,
-    }
-}
-
-// What a flush still has to do.
-fn flush(scene: &mut Scene, verb: &str, rest: &str) -> Result<String, NoMemory> {
-    let (first, second) = two(rest);
-    match verb {
-        "push-binding" => {
-            let (child, owner) = (scene.at(first), scene.at(second));
-            let bound = Bound {
-                cell: child.cell,
-                owner: owner.inst,
-                target: owner.cell,
-            };
-            scene.world.rounds.push_binding(Binding {
-                child: child.inst,
-                bound,
-            })?;
-            scene.silent()
-        }
-        "pop-binding" => match scene.world.rounds.pop_binding() {
-            Some(Binding { child, bound }) => binding(scene, child, bound),
-            None => scene.word("none"),
-        },
-        "push-mount" => {
-            let waiting = Waiting::Mounting(scene.inst(rest));
-            scene.world.rounds.push_waiting(waiting)?;
-            scene.silent()
-        }
-        "push-after" => {
-            let waiting = Waiting::AfterUpdate(scene.inst(first), number(second));
-            scene.world.rounds.push_waiting(waiting)?;
-            scene.silent()
-        }
-        "next" => match scene.world.rounds.next_waiting() {
-            Some(waiting) => entry(scene, waiting),
-            None => scene.word("none"),
-        },
-        _ => ran(scene, verb, rest),
-    }
-}
-
-fn binding(scene: &Scene, child: Inst, bound: Bound) -> Result<String, NoMemory> {
-    let Bound {
-        cell,
-        owner,
-        target,
-    } = bound;
-    Ok(format!(in scene.alloc; "{}.{cell} to {}.{target}", child.number, owner.number)?)
-}
-
-fn entry(scene: &Scene, waiting: Waiting) -> Result<String, NoMemory> {
-    match waiting {
-        Waiting::Mounting(inst) => Ok(format!(in scene.alloc; "mount {}", inst.number)?),
-        Waiting::AfterUpdate(inst, at) => {
-            Ok(format!(in scene.alloc; "after {} {at}", inst.number)?)
-        }
-    }
-}
-
-// Which callbacks ran in a flush.
-fn ran(scene: &mut Scene, verb: &str, rest: &str) -> Result<String, NoMemory> {
-    let (first, second) = two(rest);
-    match verb {
-        "runs" => {
-            let inst = scene.inst(first);
-            let fresh = scene.world.rounds.mark_ran(inst, number(second))?;
-            scene.word(yes_or_no(fresh))
-        }
-        "waits" => {
-            let places = scene.world.rounds.queued_after(scene.inst(rest))?;
-            let mut told = scene.silent()?;
-            for place in places {
-                push_part(&mut told, " ", place.to_string(scene.alloc)?.as_str())?;
-            }
-            Ok(told)
-        }
-        "end-flush" => {
-            scene.world.rounds.end_flush();
-            scene.silent()
-        }
-        _ => turn(scene, verb, rest),
     }
 }
 
@@ -198,18 +115,6 @@ fn turn(scene: &mut Scene, verb: &str, rest: &str) -> Result<String, NoMemory> {
         "steps" => {
             let steps = turn.steps();
             scene.count(steps as u64)
-        }
-        "work" => {
-            let left = turn.spend_work();
-            scene.word(yes_or_no(left))
-        }
-        "work-left" => {
-            let work = turn.work();
-            scene.count(work as u64)
-        }
-        "number" => {
-            let number = turn.take_local_number()?;
-            scene.count(number)
         }
         "log" => {
             turn.write_log(Text::new(scene.alloc, rest)?)?;

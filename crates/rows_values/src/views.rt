@@ -9,7 +9,7 @@ use sv_view::{At, Cell, Constants, Modules, View};
 /// shows slot content on it; its owner's; and a shared copy.
 pub fn happens(scene: &mut Scene, verb: &str, rest: &str) -> Result<String, NoMemory> {
     let taken = match verb {
-        "view" => scene.world.present(scene.inst(rest))?,
+        "view" => scene.world.present(scene.alloc, scene.inst(rest))?,
         "with" => with_local(scene, rest)?,
         "shown-by" => below(scene, rest)?,
         "owner" => match &scene.view {

@@ -5,3 +5,4 @@ pub mod Removal
 pub mod NodeKinds
 pub mod Starting
 pub mod Numbering
+pub mod Printing

@@ -1,1 +1,2 @@
 pub mod Dom
+pub mod Printed

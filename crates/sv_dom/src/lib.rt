@@ -1,5 +1,5 @@
-//! The page: a tree of elements, texts and anchors that tells each change. A contract sees it as the list of its
-//! tokens in document order, so that each call edits one place of the list and leaves all around it.
+//! The page: a tree of elements, texts and anchors that tells each change and is printed. A contract sees it as the list
+//! of its tokens in document order, so that each call edits one place of the list and leaves all around it.
 #![tactic(auto)]
 
 ghost use Rattle.std.specs.Prelude.{◌≡◌, ◌≢◌, ◌+◌, ◌∷◌, ◌^◌, ◌<◌, [], IfOk, OnOk, OnErr, IsSome, IsNone, None, ◌↔◌, ℕ, IfSome};
@@ -16,6 +16,9 @@ ghost use Rattle.sv_nodes.specs.Sound.{IsSound};
 ghost use Rattle.sv_nodes.specs.Cells.{kind_of, cell_of, nodes_of};
 ghost use Rattle.sv_dom.specs.Dom.{empty_page, key_in, kind_of_what, relocation, removal};
 
+mod printed;
+
+pub use printed::print;
 use slab::Slab;
 use std::alloc::Global;
 use std::marker::Model;
@@ -98,8 +101,8 @@ impl Dom {
         Node(0)
     }
 
-    /// The nodes under their keys, for crates that walk the page.
-    pub fn nodes(&self) -> &Slab<Entry>
+    // The nodes under their keys.
+    pub(crate) fn nodes(&self) -> &Slab<Entry>
         ensures shows { tokens_of (nodes_of result.now.slots) ≡ self.now.tokens }
         ensures sound { IsSound (nodes_of result.now.slots) self.now.next }
     {

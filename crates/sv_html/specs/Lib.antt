@@ -1,2 +1,2 @@
 pub mod Html
-pub mod Printed
+pub mod Tag

@@ -28,7 +28,7 @@ fn push_value_byte(out: &mut Vec<u8>, byte: u8) -> Result<(), NoMemory>
 }
 
 // The text of a text node.
-pub(crate) fn push_text(out: &mut Vec<u8>, text: &[u8]) -> Result<(), NoMemory>
+pub(crate) fn push_bytes(out: &mut Vec<u8>, text: &[u8]) -> Result<(), NoMemory>
     ensures { OnOk result (out.new.items ≡ out.old.items ++ text_html text.now) }
 {
     for byte in text {

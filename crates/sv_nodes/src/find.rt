@@ -1,15 +1,14 @@
 // Nodes are looked for.
 ghost use Rattle.std.specs.Prelude.{◌≡◌, ◌∷◌, [], IsSome, IsSomeAnd, IfSome, ◌≤◌, length, drop};
-ghost use Rattle.std.specs.List.{list_any};
 ghost use Rattle.slab.specs.Slab.{get};
-ghost use Rattle.sv_tokens.specs.Token.{first_key, identifies, is_id, is_text};
+ghost use Rattle.sv_tokens.specs.Token.{first_key, identifies};
 ghost use Rattle.sv_nodes.specs.Nodes.{walk, levels, is_anchor, first_shown};
 ghost use Rattle.sv_nodes.specs.Sound.{IsSound};
 ghost use Rattle.sv_nodes.specs.Cells.{kind_of, nodes_of, shows_id};
 
 use crate::{Content, Entry, entry_at};
 use slab::Slab;
-use sv_tokens::{Attr, Attribute};
+use sv_tokens::shows_id;
 
 /// The first element that shows that id, among a node and all below it in document order.
 pub fn find_in(nodes: &Slab<Entry>, next: u64, key: u32, id: &str) -> Option<u32>
@@ -34,35 +33,9 @@ fn content_shows_id(content: &Content, id: &str) -> bool
     ensures { result ≡ shows_id id.now (kind_of content.now) }
 {
     match content {
-        Content::Element(element) => some_is_id(&element.attributes, id),
+        Content::Element(element) => shows_id(&element.attributes, id),
         Content::Text(_) => false,
         Content::Anchor => false,
-    }
-}
-
-fn some_is_id(attributes: &[Attribute], id: &str) -> bool
-    ensures { result ≡ list_any (is_id id.now) attributes.now }
-{
-    for attribute in attributes {
-        if is_id_attribute(attribute, id) {
-            return true;
-        }
-    }
-    false
-}
-
-fn is_id_attribute(attribute: &Attribute, id: &str) -> bool
-    ensures { result ≡ is_id id.now attribute.now }
-{
-    attribute.name.as_str() == "id" && is_text(&attribute.value, id)
-}
-
-fn is_text(value: &Attr, text: &str) -> bool
-    ensures { result ≡ is_text text.now value.now }
-{
-    match value {
-        Attr::Flag => false,
-        Attr::Text(shown) => shown.as_str() == text,
     }
 }
 

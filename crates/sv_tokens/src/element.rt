@@ -1,5 +1,7 @@
 // What an element shows of its own.
+ghost use Rattle.std.specs.List.{list_any};
 ghost use Rattle.std.specs.Prelude.{◌≡◌, ◌↔◌, IfOk, IsTrue};
+ghost use Rattle.sv_tokens.specs.Token.{is_id, is_text};
 
 use sv_base::{NoMemory, Text};
 
@@ -31,6 +33,16 @@ impl Attr {
             _ => false,
         }
     }
+
+    // Whether it shows this text.
+    fn is_text(&self, text: &str) -> bool
+        ensures { result ≡ is_text text.now self.now }
+    {
+        match self {
+            Attr::Flag => false,
+            Attr::Text(shown) => shown.as_str() == text,
+        }
+    }
 }
 
 /// An attribute of an element. The attributes of an element stand by slot, which is their place in the
@@ -40,6 +52,22 @@ pub struct Attribute {
     pub slot: u16,
     pub name: Text,
     pub value: Attr,
+}
+
+impl Attribute {
+    // Whether it is that `id`.
+    fn is_id(&self, id: &str) -> bool
+        ensures { result ≡ is_id id.now self.now }
+    {
+        self.name.as_str() == "id" && self.value.is_text(id)
+    }
+}
+
+/// Whether an element with these attributes shows that `id`.
+pub fn shows_id(attributes: &[Attribute], id: &str) -> bool
+    ensures { result ≡ list_any (is_id id.now) attributes.now }
+{
+    attributes.iter().any(|attribute| attribute.is_id(id))
 }
 
 /// What a user left in an input, laid over the attributes that the page gives it: the text of a text field,

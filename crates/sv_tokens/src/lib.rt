@@ -6,4 +6,4 @@ mod change;
 mod element;
 
 pub use change::{Change, What};
-pub use element::{Attr, Attribute, Typed};
+pub use element::{Attr, Attribute, Typed, shows_id};

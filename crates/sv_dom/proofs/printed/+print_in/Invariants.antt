@@ -2,8 +2,8 @@ use Rattle.std.proofs.Common.{◌≡◌, ◌++◌, ◌∷◌, [], ◌-◌, drop}
 use Rattle.sv_nodes.specs.Nodes.{walk, levels, serial_at}
 use Rattle.sv_nodes.specs.Cells.{nodes_of, kind_of}
 use Rattle.sv_html.specs.Html.{html}
-use Rattle.sv_html.specs.Printed.{after_html}
-use Rattle.sv_html.proofs.+print_in.Given as goal
+use Rattle.sv_dom.specs.Printed.{after_html}
+use Rattle.sv_dom.proofs.printed.+print_in.Given as goal
 
 abbrev pub decreases-print_in : goal.decreases-print_in
 decreases-print_in l = l.next - serial_at (nodes_of l.nodes.now.slots) l.key

@@ -1,8 +1,8 @@
 use Rattle.std.proofs.Common.{◌∙◌, ap, refl, get_or, arith}
 use Rattle.sv_nodes.specs.Cells.{nodes_of, cell_of}
 use Rattle.sv_nodes.proofs.Finding.{at_entry, child-below}
-use Rattle.sv_html.proofs.Printing.{html-node, printed-first, printed-next, printed-all}
-use Rattle.sv_html.proofs.+print_in.Goals as goal
+use Rattle.sv_dom.proofs.Printing.{html-node, printed-first, printed-next, printed-all}
+use Rattle.sv_dom.proofs.printed.+print_in.Goals as goal
 
 pub loop-child-init : goal.loop-child-init
 loop-child-init t c =

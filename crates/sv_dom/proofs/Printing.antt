@@ -6,7 +6,7 @@ use Rattle.sv_nodes.specs.Sound.{IsSound}
 use Rattle.sv_nodes.proofs.Walk.{walk-node}
 use Rattle.sv_nodes.proofs.Finding.{rest-cons, rest-none}
 use Rattle.sv_html.specs.Html.{html, token_html}
-use Rattle.sv_html.specs.Printed.{before_html, after_html}
+use Rattle.sv_dom.specs.Printed.{before_html, after_html}
 
 html-append : (numbers : Bool) (xs ys : List Token) → html numbers (xs ++ ys) ≡ html numbers xs ++ html numbers ys
 html-append numbers [] ys = refl

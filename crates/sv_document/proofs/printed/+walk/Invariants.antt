@@ -1,0 +1,6 @@
+use Rattle.std.proofs.Common.{◌≡◌, ◌++◌, drop}
+use Rattle.sv_document.specs.Printed.{html}
+use Rattle.sv_document.proofs.printed.+walk.Given as goal
+
+abbrev pub invariant-push_nodes-loop-node : goal.invariant-push_nodes-loop-node
+invariant-push_nodes-loop-node l = l.out.items ++ html l.numbers (drop l.node-index l.nodes) ≡ l.fn.out.items ++ html l.numbers l.nodes

@@ -1,0 +1,5 @@
+pub mod Listener
+pub mod Shown
+pub mod Printed
+pub mod Target
+pub mod Laws

@@ -1,0 +1,33 @@
+-- The element that an event goes to, and those round it.
+use Rattle.std.specs.Prelude.{ℕ, List, [], ◌∷◌, ◌++◌, Option, None, Some, map, option_map, if◌then◌else◌}
+use Rattle.std.specs.List.{list_any}
+use Rattle.std.specs.Option.{option_or}
+use Rattle.sv_tokens.specs.Token.{is_id}
+use Rattle.sv_document.specs.declared.element.Element.{Element}
+use Rattle.sv_document.specs.declared.tree.Node.{Node, Node-F, fold-Node}
+
+-- elements, each inside the next
+abbrev pub Path : Type 0
+Path = List Element
+
+-- the first that is there
+abbrev pub first_of : List (Option Path) → Option Path
+first_of [] = None
+first_of (found ∷ more) = option_or found (first_of more)
+
+-- what is found in an element is inside it
+abbrev pub within : Element → Option Path → Option Path
+within element found = option_map (λ path. path ++ element ∷ []) found
+
+-- the element itself comes before those inside it
+abbrev pub in_form : (id : List ℕ) → Node-F (Option Path) → Option Path
+in_form id (Node-F.Element element children) = if list_any (is_id id) element.attributes then Some (element ∷ []) else within element (first_of children)
+in_form id (Node-F.Text mark number text) = None
+
+-- the path to the first element in a node
+abbrev pub in_node : (id : List ℕ) → Node → Option Path
+in_node id = fold-Node (Option Path) (in_form id)
+
+-- The first element in document order that shows an `id`, and then each one round it, to the outermost.
+abbrev pub target : (id : List ℕ) → List Node → Option Path
+target id nodes = first_of (map (in_node id) nodes)

@@ -1,0 +1,17 @@
+//! The document tree: what a page shows at one moment, as plain data; how it is printed, which elements an event meets, and
+//! what an element shows.
+#![tactic(auto)]
+
+mod element;
+mod laws;
+mod listener;
+mod path;
+mod printed;
+mod tree;
+
+pub use element::{Attributes, Element, Listeners};
+pub use laws::shown_as_printed;
+pub use listener::{Binding, Directive, Listener};
+pub use path::target;
+pub use printed::print;
+pub use tree::{Node, Nodes};

@@ -1,0 +1,4 @@
+pub mod Members
+pub mod Form
+pub mod EventsFile
+pub mod Shape
