@@ -1,6 +1,7 @@
 -- What is read in a view, and the views that are made of one.
-use Rattle.std.specs.Prelude.{ℕ, List, [], ◌∷◌, Option, Some, None, option_map, unwrap_or, slice_get}
+use Rattle.std.specs.Prelude.{ℕ, List, [], ◌∷◌, Option, Some, None, option_map, map, unwrap_or, slice_get}
 use Rattle.sv_value.specs.Value.{Val}
+use Rattle.sv_value.specs.declared.value.Inst.{Inst}
 use Rattle.sv_view.specs.Cell.{Cell}
 use Rattle.sv_view.specs.Local.{Local, local_at}
 use Rattle.sv_view.specs.Level.{Level, View}
@@ -15,6 +16,14 @@ levels v = v.own ∷ v.owners
 abbrev pub levels_of : Option View → List Level
 levels_of None = []
 levels_of (Some v) = levels v
+
+-- an instance by its number alone
+abbrev pub inst_number : Inst → ℕ
+inst_number i = i.number
+
+-- the instances of all levels
+abbrev pub insts : View → List ℕ
+insts v = map (λ l. l.inst) (levels v)
 
 -- the view of an instance with these cells, before its owner's
 abbrev pub started : ℕ → List Cell → Option View → View

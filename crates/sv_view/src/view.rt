@@ -3,7 +3,7 @@ ghost use Rattle.std.specs.Prelude.{◌≡◌, ◌++◌, [], map, option_map, op
 ghost use Rattle.sv_value.specs.View.{view_of};
 ghost use Rattle.sv_view.specs.Local.{local_at};
 ghost use Rattle.sv_view.specs.Constants.{constant_at, module_constant_at};
-ghost use Rattle.sv_view.specs.View.{started, levels_of, with_constants, with_locals, with_local, owner_of, look, version, owner_cells};
+ghost use Rattle.sv_view.specs.View.{started, levels_of, with_constants, with_locals, with_local, owner_of, inst_number, insts, look, version, owner_cells};
 
 use crate::cell::Cell;
 use crate::constants::{Constants, Modules};
@@ -165,6 +165,18 @@ impl View {
         ensures { result.number ≡ self.now.own.inst }
     {
         self.own.inst
+    }
+
+    /// The instances of its levels: its own first, then its owner, the owner's owner and so on.
+    pub fn insts(&self) -> Result<Vec<Inst>, NoMemory>
+        ensures { IfOk result (λ all. map inst_number all.items ≡ insts self.now) }
+    {
+        let mut all = Vec::new(self.alloc);
+        all.push(self.own.inst)?;
+        for level in self.owners.as_slice() {
+            all.push(level.inst)?;
+        }
+        Ok(all)
     }
 
     /// Its row locals and slot props.

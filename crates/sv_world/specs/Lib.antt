@@ -1,5 +1,3 @@
 pub mod Turn
-pub mod Rounds
-pub mod Waits
 pub mod World
 pub mod Setup

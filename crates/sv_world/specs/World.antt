@@ -1,5 +1,5 @@
--- The world of a page.
-use Rattle.std.specs.Prelude.{◌≡◌, ℕ, List, [], Option, Some, None}
+-- The world in which scripts run.
+use Rattle.std.specs.Prelude.{ℕ, List, [], Option, option_map}
 use Rattle.sv_value.specs.Value.{Val}
 use Rattle.sv_view.specs.Level.{View}
 use Rattle.sv_view.specs.View.{started, with_constants}
@@ -7,29 +7,25 @@ use Rattle.sv_instance.specs.Cells.{present}
 use Rattle.sv_instance.specs.declared.instance.Instance.{Instance}
 use Rattle.sv_states.specs.States.{States, live}
 use Rattle.sv_states.specs.Empty.{no_states}
-use Rattle.sv_states.specs.Change as states
-use Rattle.sv_world.specs.Rounds.{no_rounds, forgotten}
 use Rattle.sv_world.specs.Turn.{fresh}
 use Rattle.sv_world.specs.declared.world.World.{World}
 
 -- where everything begins
-pub record IsEmpty (w : World) : Type 0 where
-  pub states : w.states ≡ no_states
-  pub modules : w.modules ≡ []
-  pub rounds : w.rounds ≡ no_rounds
-  pub turn : w.turn ≡ fresh
+abbrev pub no_world : World
+no_world = record { states = no_states; modules = []; turn = fresh }
 
--- an instance goes, and all that waits for it
-abbrev pub removed : World → ℕ → World
-removed w n = record w { states = states.removed w.states n; rounds = forgotten w.rounds n }
+-- the view of an instance's present cells, before an owner's view
+abbrev pub view_before : Option View → List (List (Option Val)) → ℕ → Instance → View
+view_before owner modules n i = with_constants (started n (present i.cells.now) owner) i.setup.constants modules
 
--- the view of an instance's present cells
+-- the same, before the view that its owner handed it
 abbrev pub present_view : List (List (Option Val)) → ℕ → Instance → View
-present_view modules n i = with_constants (started n (present i.cells.now) i.owner_view) i.setup.constants modules
+present_view modules n i = view_before i.owner_view modules n i
 
-abbrev pub present_over : List (List (Option Val)) → ℕ → Option Instance → Option View
-present_over modules n None = None
-present_over modules n (Some i) = Some (present_view modules n i)
+-- the view of a live instance, before an owner's view
+abbrev pub presented_before : Option View → States → List (List (Option Val)) → ℕ → Option View
+presented_before owner s modules n = option_map (view_before owner modules n) (live s n)
 
+-- the same, before the view that its owner handed it
 abbrev pub presented : States → List (List (Option Val)) → ℕ → Option View
-presented s modules n = present_over modules n (live s n)
+presented s modules n = option_map (present_view modules n) (live s n)

@@ -8,10 +8,9 @@ ghost use Rattle.sv_instance.specs.Dirty.{is_among};
 ghost use Rattle.sv_states.specs.States.{live, cell_in, cell_count, is_dirty_in};
 ghost use Rattle.sv_states.specs.Waiting.{enqueued, snapped};
 ghost use Rattle.sv_states.specs.Assignment.{assigned, store_set, bound_up};
-ghost use Rattle.sv_states.specs.Change.{depth_above, place_below, added};
-ghost use Rattle.sv_world.specs.World.{IsEmpty, removed, present_view, presented};
+ghost use Rattle.sv_states.specs.Change.{depth_above, place_below, added, removed};
+ghost use Rattle.sv_world.specs.World.{no_world, view_before, presented_before, presented};
 
-use crate::rounds::Rounds;
 use crate::turn::Turn;
 use std::alloc::Global;
 use sv_base::NoMemory;
@@ -21,27 +20,23 @@ use sv_store::Sub;
 use sv_value::{Inst, Value};
 use sv_view::{Cell, Modules, View};
 
-/// The world of a page: the states of its components, the constants of its module files, what a flush still has to do, and what
-/// a turn may still spend. Calls take any instance, cell or store: what isn't there changes nothing.
+/// The world in which scripts run: the states of components, the constants of module files, the steps that are left in a turn, and its log.
+/// Calls take any instance, cell or store: what isn't there changes nothing.
 #[derive(Drop)]
 pub struct World {
-    alloc: Global,
     pub states: States,
     pub modules: Modules,
-    pub rounds: Rounds,
     pub turn: Turn,
 }
 
 impl World {
-    /// No instances, no stores, no module files, and nothing to do.
+    /// No instances, no stores and no module files.
     pub fn new(alloc: Global) -> Result<World, NoMemory>
-        ensures { IfOk result IsEmpty }
+        ensures { IfOk result (λ world. world ≡ no_world) }
     {
         Ok(World {
-            alloc,
             states: States::new(alloc)?,
             modules: Modules::new(alloc, &[])?,
-            rounds: Rounds::new(alloc),
             turn: Turn::new(alloc),
         })
     }
@@ -65,13 +60,11 @@ impl World {
             .add(component, parent, cells, constants, standing)
     }
 
-    /// An instance goes, with its subscriptions, its entry in the queue, its entries in the render queue, and the binding
-    /// callbacks of which it is the child or the owner.
+    /// An instance goes, with its subscriptions and its entry in the queue.
     pub fn remove_instance(&mut self, inst: Inst)
-        ensures { self.new ≡ removed self.old inst.number }
+        ensures { self.new ≡ record self.old { states = removed self.old.states inst.number } }
     {
         self.states.remove(inst);
-        self.rounds.forget(inst);
     }
 
     /// Whether an instance is live.
@@ -168,25 +161,50 @@ impl World {
         self.states.take_dirty(inst)
     }
 
-    /// The view of an instance's present cells and constants, without locals, before its owner's view, or `None` exactly where
-    /// it isn't live.
-    pub fn present(&self, inst: Inst) -> Result<Option<View>, NoMemory>
+    /// The view of an instance's present cells and constants, without locals, before the view that its owner handed it, or `None` exactly
+    /// where it isn't live.
+    pub fn present(&self, alloc: Global, inst: Inst) -> Result<Option<View>, NoMemory>
         ensures { IfOk result (λ view. view ≡ presented self.now.states self.now.modules inst.number) }
     {
         match self.states.get(inst) {
             Some(instance) => {
-                let view = self.present_of(inst, instance)?;
+                let owner = instance.owner_view.as_ref();
+                let view = self.view_before(alloc, inst, instance, owner)?;
                 Ok(Some(view))
             }
             None => Ok(None),
         }
     }
 
-    fn present_of(&self, inst: Inst, instance: &Instance) -> Result<View, NoMemory>
-        ensures { IfOk result (λ view. view ≡ present_view self.now.modules inst.number instance.now) }
+    /// The same before an owner's view, or before none.
+    pub fn present_before(
+        &self,
+        alloc: Global,
+        inst: Inst,
+        owner: Option<&View>,
+    ) -> Result<Option<View>, NoMemory>
+        ensures { IfOk result (λ view. view ≡ presented_before (option_copied owner.entry) self.now.states self.now.modules inst.number) }
     {
-        let cells = instance.cells.present(self.alloc)?;
-        let view = View::of(self.alloc, inst, cells, instance.owner_view.as_ref())?;
+        match self.states.get(inst) {
+            Some(instance) => {
+                let view = self.view_before(alloc, inst, instance, owner)?;
+                Ok(Some(view))
+            }
+            None => Ok(None),
+        }
+    }
+
+    fn view_before(
+        &self,
+        alloc: Global,
+        inst: Inst,
+        instance: &Instance,
+        owner: Option<&View>,
+    ) -> Result<View, NoMemory>
+        ensures { IfOk result (λ view. view ≡ view_before (option_copied owner.entry) self.now.modules inst.number instance.now) }
+    {
+        let cells = instance.cells.present(alloc)?;
+        let view = View::of(alloc, inst, cells, owner)?;
         let setup = &instance.setup;
         let constants = setup.constants.share()?;
         let modules = self.modules.share()?;
