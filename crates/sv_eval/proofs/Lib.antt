@@ -1,0 +1,5 @@
+pub mod Exits
+pub mod Forms
+pub mod Measure
+pub mod Parts
+pub mod Steps

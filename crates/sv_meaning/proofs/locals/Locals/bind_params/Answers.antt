@@ -1,0 +1,10 @@
+use Rattle.std.proofs.Common.{◌≡◌, ◌++◌, ◌∷◌, [], refl, ap, sym, ◌∙◌, arith, add-one, append_assoc, drop, map, Some, suc}
+use Rattle.sv_value.specs.View.{view_of}
+use Rattle.sv_meaning.specs.Env.{bound, params}
+use Rattle.sv_meaning.proofs.Names.{bound_next, bound_pushed}
+use Rattle.sv_meaning.proofs.locals.Locals.bind_params.Goals as goal
+
+pub loop-i-preserved : goal.loop-i-preserved
+loop-i-preserved c =
+    let next = bound_next (λ x. x.name.0) c.args.named.now c.args.values.now c.loop-i.i _ (omega (arith, c.loop-i-test.true)) in
+    rw add-one (c.loop-i.invariant ∙ bound_pushed c.loop-i.self c.push.new.self _ _ _ _ _ c.in_ok-push.ensures c.in_ok-value_at.ensures next)

@@ -1,0 +1,15 @@
+pub mod Env
+pub mod Outcome
+pub mod Sight
+pub mod Calls
+pub mod Values
+pub mod Statements
+pub mod Functions
+pub mod Parts
+pub mod Components
+pub mod Listeners
+pub mod Runs
+pub mod Gives
+pub mod Context
+pub mod Counts
+pub mod Hearers

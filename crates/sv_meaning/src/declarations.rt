@@ -1,0 +1,153 @@
+// Declarations, and the names that are open in the body of a function.
+ghost use Rattle.std.specs.Prelude.{◌≡◌, ◌≤◌, map, IfOk, OnOk};
+ghost use Rattle.sv_value.specs.View.{view_of};
+ghost use Rattle.sv_ops.specs.Answer.{object_made};
+ghost use Rattle.sv_ops.specs.Answers.{Answers};
+ghost use Rattle.sv_meaning.specs.Env.{Env};
+ghost use Rattle.sv_meaning.specs.Functions.{env_of, returned, event_fields};
+ghost use Rattle.sv_meaning.specs.Gives.{Gives, EndsAs};
+ghost use Rattle.sv_meaning.specs.Outcome.{Next, Done};
+ghost use Rattle.sv_meaning.specs.Statements.{declare, initialized, constant_set, subscribe, subscribe_if};
+ghost use Rattle.sv_meaning.specs.Gives.{flow_of};
+
+use crate::counting::fault;
+use crate::errors::EvalError;
+use crate::locals::Locals;
+use std::alloc::Global;
+use sv_base::{NoMemory, Span, Text};
+use sv_code::{CodeDecl, Function, Known};
+use sv_ops::{FaultKind, Given, OpError, object_of};
+use sv_store::Sub;
+use sv_value::{Inst, Value};
+use sv_world::World;
+
+/// How a statement ends.
+#[derive(Drop)]
+pub enum End {
+    Next,
+    Broken,
+    Continued,
+    Returned(Value),
+}
+
+/// A declared name gets its first value, and where its `$` name is written the cell of that is subscribed: `NotAStore` exactly where the
+/// value is none then.
+pub fn declare(
+    world: &mut World,
+    locals: &mut Locals,
+    owner: Inst,
+    decl: &CodeDecl,
+    value: Value,
+) -> Result<(), EvalError>
+    ensures means { Gives (λ _. Next) result locals.new world.new (declare owner.number decl.now (view_of value) locals.old world.old) }
+    ensures fewer { world.new.turn.steps ≤ world.old.turn.steps }
+{
+    let span = decl.name.span;
+    let held = value.share()?;
+    initialize(world, locals, owner, decl, value)?;
+    match decl.store {
+        Some(cell) => subscribe(world, Sub { inst: owner, cell }, &held, span),
+        None => Ok(()),
+    }
+}
+
+fn initialize(
+    world: &mut World,
+    locals: &mut Locals,
+    owner: Inst,
+    decl: &CodeDecl,
+    value: Value,
+) -> Result<(), NoMemory>
+    ensures means { OnOk result (initialized owner.number decl.now.target decl.now.name.span (view_of value) locals.old world.old ≡ Done (view_of value) locals.new world.new) }
+    ensures fewer { world.new.turn.steps ≤ world.old.turn.steps }
+{
+    match decl.target {
+        Known::Local(name) => {
+            locals.give(name, value);
+            Ok(())
+        }
+        Known::Cell(cell) => {
+            world.states.declare(Sub { inst: owner, cell }, value);
+            Ok(())
+        }
+        Known::Constant(constant) => {
+            set_constant(world, owner, decl.name.span.file, constant, value)
+        }
+        _ => {
+            drop(value);
+            Ok(())
+        }
+    }
+}
+
+/// A constant of the file in which code is written gets its value.
+pub fn set_constant(
+    world: &mut World,
+    owner: Inst,
+    file: u16,
+    constant: u32,
+    value: Value,
+) -> Result<(), NoMemory>
+    ensures set { OnOk result (world.new ≡ constant_set owner.number file constant (view_of value) world.old) }
+    ensures fewer { world.new.turn.steps ≤ world.old.turn.steps }
+{
+    if owner.number == 0 {
+        world.modules.set(file, constant, value)
+    } else {
+        world.set_constant(owner, constant, value)
+    }
+}
+
+/// A cell is subscribed to the store that a value is; `NotAStore` at the place exactly where it is none.
+pub fn subscribe(world: &mut World, at: Sub, value: &Value, span: Span) -> Result<(), EvalError>
+    ensures means { EndsAs (λ u. u) result world.new (subscribe at.inst.number at.cell span (view_of value.now) world.old) }
+    ensures fewer { world.new.turn.steps ≤ world.old.turn.steps }
+{
+    let Value::Store(id) = value else {
+        return Err(fault(FaultKind::NotAStore, span));
+    };
+    world.states.subscribe(at, *id)?;
+    Ok(())
+}
+
+/// The names that are open in the body of a function: those that it took along, its parameters, and what it declares.
+pub fn open_body(
+    alloc: Global,
+    function: &Function,
+    held: &[Value],
+    args: &[Value],
+) -> Result<Locals, NoMemory>
+    ensures { IfOk result (λ locals. locals ≡ env_of function.now (map view_of held.now) (map view_of args.now)) }
+{
+    let mut locals = Locals::new(alloc);
+    locals.bind(function.captured.as_slice(), held)?;
+    locals.bind_params(function.params.as_slice(), args)?;
+    locals.open_all(function.declares.as_slice())?;
+    Ok(locals)
+}
+
+/// What a function's body gives.
+pub fn returned(end: End) -> Value
+    ensures { view_of result ≡ returned (flow_of end) }
+{
+    match end {
+        End::Returned(value) => value,
+        End::Next | End::Broken | End::Continued => Value::Undefined,
+    }
+}
+
+/// The event object of a dispatched event. An absent detail is `null`.
+pub fn event_of(alloc: Global, name: &Text, detail: Value) -> Result<Given, OpError>
+    ensures { Answers result (object_made (event_fields name.now (view_of detail))) }
+{
+    let detail = match detail {
+        Value::Undefined => Value::Null,
+        detail => detail,
+    };
+    let mut fields = Vec::new(alloc);
+    let key = Text::new(alloc, "type")?;
+    fields.push((key, Value::Text(name.share()?)))?;
+    let key = Text::new(alloc, "detail")?;
+    fields.push((key, detail))?;
+    object_of(alloc, fields)
+}

@@ -1,0 +1,27 @@
+//! What code does: scripts, functions, reactive statements, the listeners of tags, and the pure expressions of markup.
+#![tactic(auto)]
+
+mod calls;
+mod components;
+mod context;
+mod counting;
+mod declarations;
+mod errors;
+mod limits;
+mod listening;
+mod literals;
+mod locals;
+
+pub use calls::{
+    call_life, convert, first, is_of_math, is_on_list, is_on_store, is_on_text, log, make_store,
+    of_math, on_list, on_text, second, set_store, store_value, takes_function,
+};
+pub use components::{component_at, component_of, markup_of, variable_of};
+pub use context::Context;
+pub use counting::{answer, count, fault, spend};
+pub use declarations::{End, declare, event_of, open_body, returned, set_constant, subscribe};
+pub use errors::EvalError;
+pub use limits::{CALL_LIMIT, PART_STEP_LIMIT};
+pub use listening::{Hearer, attrs_of, hearer_of, listener_view, part_world, source_of};
+pub use literals::{put_field, put_item, spread_entries, spread_items};
+pub use locals::Locals;

@@ -1,0 +1,93 @@
+// The scripts of components as they are made.
+ghost use Rattle.std.specs.Prelude.{◌≡◌, map, IfOk, OnOk, option_copied};
+ghost use Rattle.sv_meaning.specs.Gives.{EndsAs};
+ghost use Rattle.sv_meaning.specs.Runs.{cell_opened, cells_opened, view_opened, imported_subscribed, each_in_turn, opened, run_component, run_top};
+ghost use Rattle.sv_scripts.specs.Props.{given_as};
+
+use crate::script::{Given, Script};
+use std::alloc::Global;
+use sv_base::NoMemory;
+use sv_code::{Component, Known, Program, StoreCell};
+use sv_meaning::{EvalError, component_of, fault, subscribe};
+use sv_ops::FaultKind;
+use sv_store::Sub;
+use sv_value::{Inst, Value};
+use sv_world::World;
+
+/// Runs the script of an instance with the props that were given: what module files give is subscribed where its `$` name is written, then the
+/// statements run in order, but for the reactive ones. After a fault the world is what was done before it. An instance that isn't live has no
+/// script.
+pub fn run_top(
+    alloc: Global,
+    program: &Program,
+    world: &mut World,
+    inst: Inst,
+    props: &[Given],
+) -> Result<(), EvalError>
+    ensures { EndsAs (λ u. u) result world.new (run_top program.now inst.number (map given_as props.now) world.old) }
+{
+    let Some(component) = component_of(program, world, inst) else {
+        return Ok(());
+    };
+    let script = Script {
+        alloc,
+        program,
+        owner: inst,
+        props,
+    };
+    open(world, inst, component);
+    script.set_functions(world, component.script.as_slice())?;
+    subscribe_imports(world, inst, component.stores.as_slice())?;
+    script.run(world, component.script.as_slice())
+}
+
+// Cells that are there before any statement ran.
+fn open(world: &mut World, inst: Inst, component: &Component)
+    ensures { world.new ≡ view_opened inst.number component.now.view (cells_opened inst.number component.now.reactive world.old) }
+{
+    open_cells(world, inst, component.reactive.as_slice());
+    if let Some(cell) = component.view {
+        open_cell(world, inst, cell);
+    }
+}
+
+fn open_cells(world: &mut World, inst: Inst, cells: &[u8])
+    ensures { world.new ≡ cells_opened inst.number cells.now world.old }
+{
+    for cell in cells {
+        open_cell(world, inst, *cell);
+    }
+}
+
+fn open_cell(world: &mut World, inst: Inst, cell: u8)
+    ensures { world.new ≡ cell_opened inst.number world.old cell }
+{
+    world.states.declare(Sub { inst, cell }, Value::Undefined);
+}
+
+// Stores that module files give are subscribed.
+fn subscribe_imports(world: &mut World, inst: Inst, stores: &[StoreCell]) -> Result<(), EvalError>
+    ensures { EndsAs (λ u. u) result world.new (each_in_turn (imported_subscribed inst.number) stores.now world.old) }
+{
+    for store in stores {
+        subscribe_import(world, inst, store)?;
+    }
+    Ok(())
+}
+
+fn subscribe_import(world: &mut World, inst: Inst, store: &StoreCell) -> Result<(), EvalError>
+    ensures { EndsAs (λ u. u) result world.new (imported_subscribed inst.number store.now world.old) }
+{
+    let Known::Export { file, constant } = store.holder else {
+        return Ok(());
+    };
+    let Some(value) = world.modules.get(file, constant) else {
+        return Err(fault(FaultKind::UseBeforeInit, store.span));
+    };
+    let value = value.share()?;
+    let at = Sub {
+        inst,
+        cell: store.cell,
+    };
+    subscribe(world, at, &value, store.span)
+}

@@ -1,0 +1,74 @@
+// What the page calls: functions of scripts, and the listeners of tags.
+ghost use Rattle.std.specs.Prelude.{◌≡◌, map};
+ghost use Rattle.sv_value.specs.View.{view_of};
+ghost use Rattle.sv_meaning.specs.Gives.{EndsAs};
+ghost use Rattle.sv_meaning.specs.Listeners.{teller};
+ghost use Rattle.sv_meaning.specs.Runs.{calls, called, source_of};
+
+use std::alloc::Global;
+use sv_base::{Span, Text};
+use sv_code::Program;
+use sv_eval::{Dispatched, call_value, tell};
+use sv_meaning::{CALL_LIMIT, Context, EvalError, source_of};
+use sv_states::DEPTH_LIMIT;
+use sv_value::{Inst, Value};
+use sv_world::World;
+
+/// Calls a function for the page: what can't be called stands where its source is written; what is no function is `NotAFunction` at the place
+/// that is given. After a fault the world is what was done before it.
+pub fn call(
+    alloc: Global,
+    program: &Program,
+    world: &mut World,
+    function: &Value,
+    args: &[Value],
+    span: Span,
+) -> Result<Value, EvalError>
+    ensures { EndsAs view_of result world.new (called program.now (view_of function.now) (map view_of args.now) span world.old) }
+{
+    let at = place_of(program, function, span);
+    call_value(&page_context(alloc, program), world, function, args, at)
+}
+
+// Where the source of a function stands, or a place that is given.
+fn place_of(program: &Program, function: &Value, span: Span) -> Span
+    ensures { result ≡ source_of program.now (view_of function.now) span }
+{
+    match function {
+        Value::Func(function) => source_of(program, function.code(), span),
+        _ => span,
+    }
+}
+
+/// Tells the listeners of an instance's own tag of an event, in the order of the text; those without an expression pass it on to the tag of the
+/// component in whose markup they stand.
+pub fn tell_tag(
+    alloc: Global,
+    program: &Program,
+    world: &mut World,
+    inst: Inst,
+    event: Dispatched,
+) -> Result<(), EvalError>
+    ensures { EndsAs (λ u. u) result world.new (teller program.now (calls program.now) inst.number event.entry.name.now (view_of event.entry.object.now) world.old) }
+{
+    tell(
+        &page_context(alloc, program),
+        world,
+        DEPTH_LIMIT,
+        inst,
+        event,
+    )
+}
+
+// Nobody's code: the page itself.
+fn page_context(alloc: Global, program: &Program) -> Context<'_>
+    ensures { result ≡ record { alloc = alloc; program = program.entry; sight = None; owner = record { key = 0; number = 0 }; room = CALL_LIMIT } }
+{
+    Context {
+        alloc,
+        program,
+        sight: None,
+        owner: Inst { key: 0, number: 0 },
+        room: CALL_LIMIT,
+    }
+}
