@@ -5,7 +5,7 @@ use Rattle.std.specs.Option.{is_some}
 use Rattle.std.proofs.lemmas.List.{append-nil, take_all}
 use Rattle.std.proofs.lemmas.Bool.{eqb-true}
 use Rattle.sv_value.specs.declared.key.Key.{Key}
-use Rattle.sv_keyed.specs.Keys.{same_key, times, IsDistinct, repeat_after, first_repeat}
+use Rattle.sv_keyed.specs.Keys.{same_key, times, IsDistinct, repeat_after, first_repeat, place_after}
 use Rattle.sv_keyed.specs.Places.{FindsPlaces}
 use Rattle.sv_keyed.proofs.Times.{same_key-true, same_key-self, times-append, times-self, times-one, drop_at, take_at, drop_end}
 
@@ -82,3 +82,11 @@ finds-present find keys seen k h some = go (find k) (h.at k) some
 
 pub finds-at : (find : Key → Option ℕ) (keys seen : List Key) (k : Key) (p : ℕ) → FindsPlaces find keys seen → find k ≡ Some p → slice_get keys p ≡ Some k
 finds-at find keys seen k p h e = let found = h.at k in (rw e at found).0
+
+-- the last place, one key further
+pub place-more : (keys : List Key) (i : ℕ) (key k : Key) (found : Option ℕ) → slice_get keys i ≡ Some key →
+    place_after found i (drop i keys) k ≡ place_after (cond (same_key key k) (Some i) found) (i + 1) (drop (i + 1) keys) k
+place-more keys i key k found here = let cut = drop_at keys i key here in rw cut refl
+
+pub place-end : (keys : List Key) (i : ℕ) (k : Key) (found : Option ℕ) → length keys ≤ i → place_after found i (drop i keys) k ≡ found
+place-end keys i k found le = let end = drop_end keys i le in rw end refl

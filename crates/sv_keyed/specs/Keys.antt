@@ -1,5 +1,5 @@
 -- Lists of keys: how often a key stands in one, and the first that stands there again.
-use Rattle.std.specs.Prelude.{ℕ, suc, ◌≤◌, ◌==◌, Bool, false, List, [], ◌∷◌, ◌++◌, Option, Some, None, if◌then◌else◌}
+use Rattle.std.specs.Prelude.{ℕ, suc, ◌+◌, ◌≤◌, ◌==◌, Bool, false, List, [], ◌∷◌, ◌++◌, Option, Some, None, if◌then◌else◌}
 use Rattle.std.specs.Ordering.{int_eq}
 use Rattle.std.specs.Str.{bytes_eq}
 use Rattle.std.specs.Bool.{beq}
@@ -30,3 +30,12 @@ repeat_after seen (k ∷ ks) = if times k seen == 0 then repeat_after (seen ++ k
 -- the first key that equals an earlier one
 abbrev pub first_repeat : List Key → Option Key
 first_repeat keys = repeat_after [] keys
+
+-- where a key stands last in a list whose first place has a number, or what was found before
+abbrev pub place_after : Option ℕ → ℕ → List Key → Key → Option ℕ
+place_after found n [] k = found
+place_after found n (x ∷ xs) k = place_after (if same_key x k then Some n else found) (n + 1) xs k
+
+-- the place of a key in a list, the last one where there are more
+abbrev pub place_of : List Key → Key → Option ℕ
+place_of keys k = place_after None 0 keys k

@@ -1,4 +1,4 @@
-//! The steps that turn one list of rows' keys into another.
+//! Keys of rows: where they stand, which stands twice, and the steps that turn one list of keys into another.
 #![tactic(auto)]
 
 mod arrange;
@@ -6,4 +6,5 @@ mod places;
 mod step;
 
 pub use arrange::moves;
+pub use places::{first_duplicate, places_among};
 pub use step::{KeyRefusal, KeyStep};

@@ -1,7 +1,7 @@
 // Keys looked up by std's ordered map, so that a list of n keys takes about n times log n comparisons.
-ghost use Rattle.std.specs.Prelude.{◌≡◌, ◌<◌, ◌≤◌, IfOk, OnOk, Some, if◌then◌else◌};
+ghost use Rattle.std.specs.Prelude.{◌≡◌, ◌<◌, ◌≤◌, IfOk, OnOk, Some, map, if◌then◌else◌};
 ghost use Rattle.std.specs.BTreeMap.{get};
-ghost use Rattle.sv_keyed.specs.Keys.{same_key, first_repeat};
+ghost use Rattle.sv_keyed.specs.Keys.{same_key, first_repeat, place_of};
 ghost use Rattle.sv_keyed.specs.Places.{key_order, FindsPlaces};
 
 use std::alloc::Global;
@@ -9,9 +9,27 @@ use std::collections::BTreeMap;
 use sv_base::NoMemory;
 use sv_value::Key;
 
-/// A place of each of these keys.
+/// For each of these keys its place among some others, the last one where it stands there more than once; `NoMemory` comes at want of
+/// memory alone.
+pub fn places_among(
+    alloc: Global,
+    keys: &[Key],
+    others: &[Key],
+) -> Result<Vec<Option<usize>>, NoMemory>
+    ensures { IfOk result (λ places. places.items ≡ map (place_of others.now) keys.now) }
+{
+    let found = places_of(alloc, others)?;
+    let mut places = Vec::new(alloc);
+    for key in keys {
+        places.push(place_in(&found, key))?;
+    }
+    Ok(places)
+}
+
+/// A place of each of these keys: the last one.
 pub(crate) fn places_of(alloc: Global, keys: &[Key]) -> Result<BTreeMap<Key, usize>, NoMemory>
-    ensures { IfOk result (λ places. FindsPlaces (get key_order places) keys.now keys.now) }
+    ensures finds { IfOk result (λ places. FindsPlaces (get key_order places) keys.now keys.now) }
+    ensures last { IfOk result (λ places. (k : Key) → get key_order places k ≡ place_of keys.now k) }
 {
     let mut places = BTreeMap::new(alloc);
     for (i, key) in keys.iter().enumerate() {
@@ -20,8 +38,8 @@ pub(crate) fn places_of(alloc: Global, keys: &[Key]) -> Result<BTreeMap<Key, usi
     Ok(places)
 }
 
-/// The first key that equals an earlier one.
-pub(crate) fn first_duplicate(alloc: Global, keys: &[Key]) -> Result<Option<Key>, NoMemory>
+/// The first key that equals an earlier one, or `None` exactly where no key stands twice; `NoMemory` comes at want of memory alone.
+pub fn first_duplicate(alloc: Global, keys: &[Key]) -> Result<Option<Key>, NoMemory>
     ensures { IfOk result (λ key. key ≡ first_repeat keys.now) }
 {
     let mut places = BTreeMap::new(alloc);

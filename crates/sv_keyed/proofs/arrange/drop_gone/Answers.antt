@@ -23,7 +23,7 @@ loop-i-preserved c =
     elim c.match-place_in.branch [
       | in-Some+in_ok-push-in-Some w ↦
           (let items : w.push.new.self.items ≡ c.loop-i.gone.items ++ false ∷ [] = search rules in
-          let known = finds-present _ _ _ key c.in_ok-in_new.ensures (sym (ap is_some c.place_in.ensures) ∙ ap is_some w.in-Some.is) in
+          let known = finds-present _ _ _ key c.in_ok-in_new.ensures.finds (sym (ap is_some c.place_in.ensures) ∙ ap is_some w.in-Some.is) in
           rw (w.steps-is, w.gone-is, items) record {
             marks = omega (arith, long, length-append c.loop-i.gone.items (false ∷ []));
             dropped = rw (left-keep c.loop-i.gone.items c.args.old.now c.loop-i.i key long here) (dropping-keep c.args.old.now c.args.new.now c.loop-i.steps.items _ c.loop-i.i key here c.loop-i.invariant.dropped known);
@@ -31,7 +31,7 @@ loop-i-preserved c =
       | in-None+in_ok-push-in-None+in_ok-push-in-None-2 w ↦
           (let items : w.push-in-None.new.self.items ≡ c.loop-i.gone.items ++ true ∷ [] = search rules in
           let more : w.push-in-None-2.new.self.items ≡ c.loop-i.steps.items ++ Drop c.loop-i.i ∷ [] = search rules in
-          let absent = finds-absent _ _ _ key c.in_ok-in_new.ensures (sym (ap is_some c.place_in.ensures) ∙ ap is_some w.in-None.is) in
+          let absent = finds-absent _ _ _ key c.in_ok-in_new.ensures.finds (sym (ap is_some c.place_in.ensures) ∙ ap is_some w.in-None.is) in
           rw (w.steps-is, w.gone-is, items, more) record {
             marks = omega (arith, long, length-append c.loop-i.gone.items (true ∷ []));
             dropped = rw (left-drop c.loop-i.gone.items c.args.old.now c.loop-i.i key long here) (dropping-drop c.args.old.now c.args.new.now c.loop-i.steps.items _ c.loop-i.i key here c.loop-i.invariant.dropped absent);

@@ -28,7 +28,7 @@ loop-j-preserved-in-Continue-branch-2 c =
       | then-j-new w ↦ rw w.before-is (behind-next j c.loop-j.j c.args.new.now e (omega (arith, w.if-j-new.true)))
       | else-j-new w ↦ rw w.before-is (behind-end j c.args.new.now (omega (arith, w.if-j-new.false)))
     ] in
-    let absent = finds-absent _ _ _ key c.in_ok-in_old.ensures (sym (ap is_some c.place_in.ensures) ∙ ap is_some c.in-None.is) in
+    let absent = finds-absent _ _ _ key c.in_ok-in_old.ensures.finds (sym (ap is_some c.place_in.ensures) ∙ ap is_some c.in-None.is) in
     record {
       within_new = omega (arith, c.loop-j.invariant.within_new);
       within_old = omega (arith, c.loop-j.invariant.within_old, c.end_of_left-end.ensures.within);
@@ -37,7 +37,7 @@ loop-j-preserved-in-Continue-branch-2 c =
     }
 
 pub overflow_add-at : goal.overflow_add-at
-overflow_add-at c = omega (arith, place_below c.args.old.now c.in-Some.at c.index-new-j.result (finds-at _ _ _ c.index-new-j.result c.in-Some.at c.in_ok-in_old.ensures (sym c.place_in.ensures ∙ c.in-Some.is)), c.requires.few_old)
+overflow_add-at c = omega (arith, place_below c.args.old.now c.in-Some.at c.index-new-j.result (finds-at _ _ _ c.index-new-j.result c.in-Some.at c.in_ok-in_old.ensures.finds (sym c.place_in.ensures ∙ c.in-Some.is)), c.requires.few_old)
 
 pub loop-j-preserved-then-at-end : goal.loop-j-preserved-then-at-end
 loop-j-preserved-then-at-end c =
@@ -45,7 +45,7 @@ loop-j-preserved-then-at-end c =
     let e : c.loop-j.j ≡ j + 1 = omega arith in
     let key = c.index-new-j.result in
     let here = get_at c.args.new.now j key (omega (arith, c.loop-j.invariant.within_new)) c.index-new-j.is in
-    let there = finds-at _ _ _ key c.in-Some.at c.in_ok-in_old.ensures (sym c.place_in.ensures ∙ c.in-Some.is) in
+    let there = finds-at _ _ _ key c.in-Some.at c.in_ok-in_old.ensures.finds (sym c.place_in.ensures ∙ c.in-Some.is) in
     record {
       within_new = omega (arith, c.loop-j.invariant.within_new);
       within_old = omega (arith, c.loop-j.invariant.within_old, c.end_of_left-end.ensures.within);
@@ -54,7 +54,7 @@ loop-j-preserved-then-at-end c =
     }
 
 pub bounds-gone-at-in-Some-2 : goal.bounds-gone-at-in-Some-2
-bounds-gone-at-in-Some-2 c = omega (arith, place_below c.args.old.now c.in-Some.at c.index-new-j.result (finds-at _ _ _ c.index-new-j.result c.in-Some.at c.in_ok-in_old.ensures (sym c.place_in.ensures ∙ c.in-Some.is)), c.requires.marks)
+bounds-gone-at-in-Some-2 c = omega (arith, place_below c.args.old.now c.in-Some.at c.index-new-j.result (finds-at _ _ _ c.index-new-j.result c.in-Some.at c.in_ok-in_old.ensures.finds (sym c.place_in.ensures ∙ c.in-Some.is)), c.requires.marks)
 
 pub loop-j-preserved : goal.loop-j-preserved
 loop-j-preserved c =
@@ -62,7 +62,7 @@ loop-j-preserved c =
     let e : c.loop-j.j ≡ j + 1 = omega arith in
     let key = c.index-new-j.result in
     let here = get_at c.args.new.now j key (omega (arith, c.loop-j.invariant.within_new)) c.index-new-j.is in
-    let there = finds-at _ _ _ key c.in-Some.at c.in_ok-in_old.ensures (sym c.place_in.ensures ∙ c.in-Some.is) in
+    let there = finds-at _ _ _ key c.in-Some.at c.in_ok-in_old.ensures.finds (sym c.place_in.ensures ∙ c.in-Some.is) in
     let items : c.push-in-Some-2.new.self.items ≡ c.loop-j.steps.items ++ Shift j c.if-j-new.before ∷ [] = search rules in
     let behind : IsBehind j c.args.new.now c.if-j-new.before = elim c.if-j-new.branch [
       | then-j-new w ↦ rw w.before-is (behind-next j c.loop-j.j c.args.new.now e (omega (arith, w.if-j-new.true)))
