@@ -1,0 +1,169 @@
+-- Nodes by the kind of a fragment.
+use Rattle.std.proofs.Common.{◌≡◌, ℕ, zero, suc, ◌≤◌, Bool, true, false, List, [], ◌∷◌, ◌++◌, map, refl, ap, Option, Some, None, Result, OnOk, if◌then◌else◌, ◌-◌, arith}
+use Rattle.std.specs.Option.{SomeIff}
+use Rattle.std.specs.Prelude.{unwrap_or, slice_get}
+use Rattle.sv_base.specs.declared.memory.NoMemory.{NoMemory}
+use Rattle.sv_base.specs.declared.names.Name.{Name}
+use Rattle.sv_base.specs.declared.span.Span.{Span}
+use Rattle.sv_code.specs.declared.fragments.Frag.{Frag, out-Frag, fold_out-Frag, map-Frag}
+use Rattle.sv_code.specs.declared.fragments.Frag.TheVariants as frag
+use Rattle.sv_code.specs.declared.fragments.FragArm.{FragArm, fold-FragArm, fold_out-FragArm}
+use Rattle.sv_code.specs.declared.fragments.FragAttr.{FragAttr}
+use Rattle.sv_code.specs.declared.fragments.LetName.{LetName}
+use Rattle.sv_code.specs.declared.parts.Part.{Part}
+use Rattle.sv_code.specs.declared.parts.Reading.{Reading}
+use Rattle.sv_code.specs.declared.program.Program.{Program}
+use Rattle.sv_document.specs.declared.tree.Node.{Node}
+use Rattle.sv_document.specs.declared.tree.Node.TheVariants as node
+use Rattle.sv_fresh.specs.Blocks.{chosen, items_in}
+use Rattle.sv_fresh.specs.Each.{each}
+use Rattle.sv_fresh.specs.Fresh.{Drawer, Descent, walker, ArmDrawer, Walker, walked, frag_step, arm_step, slotted, text_node, shown_text, element_of, child_drawn, content_drawn, list_nodes, rows_nodes, instance_nodes, drawn, drawn_all}
+use Rattle.sv_fresh.specs.Scene.{Page, Scene, Tags, markup_at, parts_at}
+use Rattle.sv_fresh.specs.Values.{value_at, text_at, holds_at}
+use Rattle.sv_fresh.specs.declared.blocks.RowNames.{RowNames}
+use Rattle.sv_fresh.specs.Slots.{props}
+use Rattle.sv_plan.specs.Content.{Content, content_at, outer_tags}
+use Rattle.sv_plan.specs.Slots.{content_view}
+use Rattle.sv_shapes.specs.Shapes.{Opened, opened, mark_in, parts_in, place_in, rows_in}
+use Rattle.sv_shapes.specs.declared.shape.Shape.{Shape}
+use Rattle.sv_value.specs.Value.{Val}
+use Rattle.sv_view.specs.Level.{View}
+use Rattle.sv_world.specs.World.{presented_before}
+
+unfoldable arm_drawn : Scene → FragArm → ArmDrawer
+arm_drawn s = fold-FragArm Drawer ArmDrawer (λ f v old. frag_step s.page (instance_nodes s.page s.room) s.tags (slotted s.page (instance_nodes s.page s.room) s.tags) f v (opened old)) arm_step
+
+-- one layer of a fragment
+drawn-out : (s : Scene) (f : Frag) (v : View) (old : Option Shape) →
+    drawn s f v old ≡ frag_step s.page (instance_nodes s.page s.room) s.tags (slotted s.page (instance_nodes s.page s.room) s.tags) (map-Frag _ _ _ _ (drawn s) (arm_drawn s) (out-Frag f)) v (opened old)
+unfolding drawn arm_drawn
+drawn-out s f v old =
+    ap (λ (g : Drawer). g v old)
+    (fold_out-Frag Drawer ArmDrawer (λ f v old. frag_step s.page (instance_nodes s.page s.room) s.tags (slotted s.page (instance_nodes s.page s.room) s.tags) f v (opened old)) arm_step f)
+
+arm-out : (s : Scene) (a : FragArm) → arm_drawn s a ≡ (a.test, map (drawn s) a.body)
+unfolding drawn arm_drawn
+arm-out s a =
+    fold_out-FragArm Drawer ArmDrawer (λ f v old. frag_step s.page (instance_nodes s.page s.room) s.tags (slotted s.page (instance_nodes s.page s.room) s.tags) f v (opened old)) arm_step a
+
+-- fragments are drawn one by one
+pub drawn_all-is : (s : Scene) (fs : List Frag) → drawn_all s fs ≡ walked (map (drawn s) fs)
+unfolding drawn drawn_all
+drawn_all-is s fs = refl
+
+-- ---- what is given to a slot
+
+slotted-none : (page : Page) (descend : Descent) (tags : Tags) (name : List ℕ) → content_at page.program tags name ≡ None → slotted page descend tags name ≡ None
+slotted-none page descend [] name e = refl
+slotted-none page descend (tag ∷ tags) name e = rw e refl
+
+slotted-some : (page : Page) (descend : Descent) (tags : Tags) (name : List ℕ) (c : Content) → content_at page.program tags name ≡ Some c →
+    slotted page descend tags name ≡ Some (c.lets, walker page descend (outer_tags tags) (slotted page descend (outer_tags tags)) c.frags)
+slotted-some page descend [] name c e = absurd (cc)
+slotted-some page descend (tag ∷ tags) name c e = rw e refl
+
+given-drawn : (s : Scene) (c : Content) (attrs : List FragAttr) (v : View) (old : Option Shape) →
+    walker s.page (instance_nodes s.page s.room) (outer_tags s.tags) (slotted s.page (instance_nodes s.page s.room) (outer_tags s.tags)) c.frags (content_view c.lets (props s.page.program v attrs) v) (parts_in (opened old))
+    ≡ content_drawn s c attrs v (parts_in (opened old))
+unfolding drawn_all
+given-drawn s c attrs v old = refl
+
+-- ---- branches
+
+-- the branch that is chosen, drawn, is the one that is chosen of those drawn
+choice : (b : Bool) (d : Frag → Drawer) (xs ys : List Frag) → (if b then map d xs else map d ys) ≡ map d (if b then xs else ys)
+choice true d xs ys = refl
+choice false d xs ys = refl
+
+chosen-drawn : (s : Scene) (p : Program) (v : View) (arms : List FragArm) (last : List Frag) →
+    chosen p v (map (arm_drawn s) arms) (map (drawn s) last) ≡ map (drawn s) (chosen p v (map (λ a. (a.test, a.body)) arms) last)
+chosen-drawn s p v [] last = refl
+chosen-drawn s p v (a ∷ arms) last =
+    rw (arm-out s a, chosen-drawn s p v arms last) (choice (holds_at p v a.test) (drawn s) a.body (chosen p v (map (λ a. (a.test, a.body)) arms) last))
+
+-- ---- each kind
+
+module _ (s : Scene) (f : Frag) (v : View) (old : Option Shape) where
+  pub in-Text : (t : List ℕ) → f ≡ frag.Text t → drawn s f v old ≡ text_node (mark_in (opened old)) t ∷ []
+  in-Text t is = rw (is, drawn-out, frag.outs-Text) refl
+
+  pub in-Show : (part : Part) → f ≡ frag.Show part → drawn s f v old ≡ shown_text (mark_in (opened old)) (text_at s.page.program v part)
+  in-Show part is = rw (is, drawn-out, frag.outs-Show) refl
+
+  pub in-Element : (span : Span) (name : List ℕ) (attrs : List FragAttr) (kids : List Frag) → f ≡ frag.Element span name attrs kids →
+      drawn s f v old ≡ node.Element (element_of s.page.program name attrs v (opened old)) (drawn_all s kids v (parts_in (opened old))) ∷ []
+  in-Element span name attrs kids is = rw (is, drawn-out, frag.outs-Element, drawn_all-is) refl
+
+  pub in-Tag : (k : ℕ) (reads : Reading) → f ≡ frag.Tag k reads → drawn s f v old ≡ child_drawn s k v (place_in (opened old))
+  in-Tag k reads is = rw (is, drawn-out, frag.outs-Tag) refl
+
+  pub in-Named : (slot : List ℕ) (lets : List LetName) (inner : Frag) → f ≡ frag.Named slot lets inner → drawn s f v old ≡ []
+  in-Named slot lets inner is = rw (is, drawn-out, frag.outs-Named) refl
+
+  pub in-Key : (part : Part) (body : List Frag) → f ≡ frag.Key part body → drawn s f v old ≡ drawn_all s body v (parts_in (opened old))
+  in-Key part body is = rw (is, drawn-out, frag.outs-Key, drawn_all-is) refl
+
+  pub in-If : (arms : List FragArm) (last : Option (List Frag)) → f ≡ frag.If arms last →
+      drawn s f v old ≡ drawn_all s (chosen s.page.program v (map (λ a. (a.test, a.body)) arms) (unwrap_or last [])) v (parts_in (opened old))
+  in-If arms None is = rw (is, drawn-out, frag.outs-If, drawn_all-is) (ap (λ ds. walked ds v (parts_in (opened old))) (chosen-drawn s s.page.program v arms []))
+  in-If arms (Some fs) is = rw (is, drawn-out, frag.outs-If, drawn_all-is) (ap (λ ds. walked ds v (parts_in (opened old))) (chosen-drawn s s.page.program v arms fs))
+
+  pub in-Each : (part : Part) (item : Name) (index : Option Name) (key : Option Part) (body : List Frag) (last : Option (List Frag)) → f ≡ frag.Each part item index key body last →
+      drawn s f v old
+      ≡ list_nodes (record { item = item; index = index }) (drawn_all s body) (drawn_all s (unwrap_or last [])) v (opened old) (items_in (value_at s.page.program v part))
+  in-Each part item index key body None is = rw (is, drawn-out, frag.outs-Each, drawn_all-is s body, drawn_all-is s []) refl
+  in-Each part item index key body (Some fs) is = rw (is, drawn-out, frag.outs-Each, drawn_all-is s body, drawn_all-is s fs) refl
+
+  module _ (span : Span) (name : List ℕ) (attrs : List FragAttr) (own : List Frag) (reads : Reading) (is : f ≡ frag.Slot span name attrs own reads) where
+    pub in-own : content_at s.page.program s.tags name ≡ None → drawn s f v old ≡ drawn_all s own v (parts_in (opened old))
+    in-own e = rw (is, drawn-out, frag.outs-Slot, drawn_all-is, slotted-none s.page (instance_nodes s.page s.room) s.tags name e) refl
+
+    pub in-given : (c : Content) → content_at s.page.program s.tags name ≡ Some c → drawn s f v old ≡ content_drawn s c attrs v (parts_in (opened old))
+    in-given c e = rw (is, drawn-out, frag.outs-Slot, slotted-some s.page (instance_nodes s.page s.room) s.tags name c e) (given-drawn s c attrs v old)
+
+-- ---- instances
+
+pub at-bottom : (page : Page) (room : ℕ) (tags : Tags) (owner : Option View) (n : ℕ) → room ≡ 0 → instance_nodes page room tags owner n ≡ []
+unfolding instance_nodes
+at-bottom page room tags owner n e = rw e refl
+
+pub not-live : (page : Page) (room : ℕ) (tags : Tags) (owner : Option View) (n : ℕ) → presented_before owner page.world.states page.world.modules n ≡ None → instance_nodes page room tags owner n ≡ []
+unfolding instance_nodes
+not-live page zero tags owner n e = refl
+not-live page (suc room) tags owner n e = rw e refl
+
+pub instance-drawn : (page : Page) (room left : ℕ) (tags : Tags) (owner : Option View) (n : ℕ) (v : View) → room ≡ suc left → presented_before owner page.world.states page.world.modules n ≡ Some v →
+    instance_nodes page room tags owner n ≡ drawn_all (record { page = page; room = left; tags = tags }) (markup_at page n) v (parts_at page n)
+unfolding instance_nodes drawn_all
+instance-drawn page room left tags owner n v e is = rw (e, is) refl
+
+-- ---- what was added
+
+pub draws : (r : Result (Unit {0}) NoMemory) (now before some own : List Node) → OnOk r (now ≡ before ++ some) → own ≡ some → OnOk r (now ≡ before ++ own)
+draws r now before some own h e = rw e h
+
+-- ---- lists
+
+each-map : {A B C : Type 0} (step : B → ℕ → List C) (f : A → B) (i : ℕ) (xs : List A) → each step i (map f xs) ≡ each (λ x k. step (f x) k) i xs
+each-map step f i [] = refl
+each-map step f i (x ∷ xs) = ap (λ ys. step (f x) i ++ ys) (each-map step f (suc i) xs)
+
+pub drawn-each : (s : Scene) (fs : List Frag) (v : View) (shapes : List Shape) → drawn_all s fs v shapes ≡ each (λ f i. drawn s f v (slice_get shapes i)) 0 fs
+drawn-each s fs v shapes = rw (drawn_all-is s fs) (each-map (λ (d : Drawer) i. d v (slice_get shapes i)) (drawn s) 0 fs)
+
+pub no-rows : (names : RowNames) (body last : Walker) (v : View) (old : Opened) (xs : List Val) → xs ≡ [] → list_nodes names body last v old xs ≡ last v (parts_in old)
+no-rows names body last v old xs e = rw e refl
+
+pub some-rows : (names : RowNames) (body last : Walker) (v : View) (old : Opened) (xs : List Val) → (xs ≡ [] → ⊥) → list_nodes names body last v old xs ≡ rows_nodes names body v (rows_in old) xs
+some-rows names body last v old [] e = absurd (e refl)
+some-rows names body last v old (x ∷ xs) e = refl
+
+-- ---- the room below an instance
+
+pub no-room : (r : Option ℕ) (room : ℕ) → SomeIff r (1 ≤ room) (room - 1) → r ≡ None → room ≡ 0
+no-room None room h e = omega arith
+no-room (Some left) room h e = absurd (cc)
+
+pub room-left : (r : Option ℕ) (room left : ℕ) → SomeIff r (1 ≤ room) (room - 1) → r ≡ Some left → room ≡ suc left
+room-left None room left h e = absurd (cc)
+room-left (Some other) room left h e = let q : other ≡ left = cc in omega arith

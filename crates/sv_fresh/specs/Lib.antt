@@ -1,0 +1,11 @@
+pub mod Each
+pub mod Values
+pub mod Words
+pub mod Attr
+pub mod Class
+pub mod Attributes
+pub mod Listeners
+pub mod Slots
+pub mod Blocks
+pub mod Scene
+pub mod Fresh

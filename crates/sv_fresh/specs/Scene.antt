@@ -1,0 +1,40 @@
+-- What a page is drawn from.
+use Rattle.std.specs.Prelude.{ℕ, List, [], Option, Some, None}
+use Rattle.std.specs.Option.{option_map_or}
+use Rattle.sv_code.specs.declared.fragments.Frag.{Frag}
+use Rattle.sv_code.specs.declared.program.Program.{Program}
+use Rattle.sv_fresh.specs.declared.scene.Scene as handed
+use Rattle.sv_meaning.specs.Components.{component_of, markup_of}
+use Rattle.sv_shapes.specs.Showing.{Showing, shown_of}
+use Rattle.sv_shapes.specs.declared.shape.Shape.{Shape}
+use Rattle.sv_world.specs.declared.world.World.{World}
+
+-- a program, the present states, and what is recorded as shown
+pub record Page : Type 0 where
+  pub program : Program
+  pub world : World
+  pub showing : Showing
+
+-- the numbers of the tags with which the instances of a view stand in their owners' markup, its own first
+abbrev pub Tags : Type 0
+Tags = List (Option ℕ)
+
+-- a page, how deep components may still stand, and the tags of the present view
+pub record Scene : Type 0 where
+  pub page : Page
+  pub room : ℕ
+  pub tags : Tags
+
+-- the scene that code is handed
+abbrev pub seen : handed.Scene → Scene
+seen s = record { page = record { program = s.program.now; world = s.world.now; showing = s.showing.now }; room = s.room; tags = s.tags.now }
+
+-- ---- instances
+
+-- the markup of a live instance's component
+unfoldable pub markup_at : Page → ℕ → List Frag
+markup_at page n = markup_of (component_of page.program page.world n)
+
+-- what is recorded as shown of an instance
+unfoldable pub parts_at : Page → ℕ → List Shape
+parts_at page n = option_map_or (λ x. x.parts) (shown_of page.showing n) []

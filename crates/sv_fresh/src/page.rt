@@ -1,0 +1,39 @@
+// The page.
+ghost use Rattle.std.specs.Prelude.{◌≡◌, IfOk};
+ghost use Rattle.sv_fresh.specs.Fresh.{fresh};
+
+use crate::draw::draw_instance;
+use crate::scene::Scene;
+use std::alloc::Global;
+use sv_base::NoMemory;
+use sv_code::Program;
+use sv_document::Nodes;
+use sv_list::Items;
+use sv_shapes::Showing;
+use sv_states::DEPTH_LIMIT;
+use sv_value::Inst;
+use sv_world::World;
+
+/// The document tree of the page that the present states give, from the instance with number 1 on; `NoMemory` comes at want of memory alone.
+#[tactic(auto, unfolding(crate::specs::Fresh::fresh))]
+pub fn render(
+    alloc: Global,
+    program: &Program,
+    world: &World,
+    shown: &Showing,
+) -> Result<Nodes, NoMemory>
+    ensures { IfOk result (λ nodes. nodes ≡ fresh program.now world.now shown.now) }
+{
+    let scene = Scene {
+        alloc,
+        program,
+        world,
+        showing: shown,
+        room: DEPTH_LIMIT,
+        tags: &[None],
+    };
+    let root = Inst { key: 0, number: 1 };
+    let mut nodes = Items::new(alloc);
+    draw_instance(&scene, root, None, &mut nodes)?;
+    Ok(nodes)
+}

@@ -1,0 +1,95 @@
+// What the expressions of markup give now.
+ghost use Rattle.std.specs.Prelude.{◌≡◌, [], IfOk};
+ghost use Rattle.sv_value.specs.View.{view_of};
+ghost use Rattle.sv_value.specs.Words.{text_of as text_found};
+ghost use Rattle.sv_fresh.specs.Values as spec;
+
+use crate::scene::Here;
+use std::alloc::Global;
+use sv_base::{NoMemory, Text};
+use sv_code::{FragValuePart, Part};
+use sv_eval::eval_part;
+use sv_meaning::EvalError;
+use sv_parts::alone;
+use sv_shapes::Held;
+use sv_value::{Value, ValueFault, text_of, truthy};
+
+/// The value of an expression, or none where it faults.
+#[tactic(auto, unfolding(crate::specs::Values::value_at))]
+pub fn value_at(here: &Here<'_>, part: &Part) -> Result<Option<Held>, NoMemory>
+    ensures { IfOk result (λ value. value ≡ spec.value_at here.now.scene.now.program.now here.now.view.now part.now) }
+{
+    match eval_part(here.scene.alloc, here.scene.program, here.view, &part.code) {
+        Ok(value) => Ok(Some(Held::new(value))),
+        Err(EvalError::Fault(_)) => Ok(None),
+        Err(EvalError::NoMemory) => Err(NoMemory),
+    }
+}
+
+/// The text of a value, if it has one.
+pub fn spell(alloc: Global, value: &Value) -> Result<Option<Text>, NoMemory>
+    ensures { IfOk result (λ text. text ≡ text_found (view_of value.now)) }
+{
+    match text_of(alloc, value) {
+        Ok(text) => Ok(Some(text)),
+        Err(ValueFault::NotText) => Ok(None),
+        Err(_) => Err(NoMemory),
+    }
+}
+
+/// The text of an expression, if it has one.
+pub fn text_at(here: &Here<'_>, part: &Part) -> Result<Option<Text>, NoMemory>
+    ensures { IfOk result (λ text. text ≡ spec.text_at here.now.scene.now.program.now here.now.view.now part.now) }
+{
+    match value_at(here, part)? {
+        Some(value) => spell(here.scene.alloc, value.get()),
+        None => Ok(None),
+    }
+}
+
+/// Whether an expression is taken as true.
+pub fn holds_at(here: &Here<'_>, part: &Part) -> Result<bool, NoMemory>
+    ensures { IfOk result (λ holds. holds ≡ spec.holds_at here.now.scene.now.program.now here.now.view.now part.now) }
+{
+    match value_at(here, part)? {
+        Some(value) => Ok(truthy(value.get())),
+        None => Ok(false),
+    }
+}
+
+// The text of a part of an attribute's value.
+fn piece_text(here: &Here<'_>, piece: &FragValuePart) -> Result<Option<Text>, NoMemory>
+    ensures { IfOk result (λ text. text ≡ spec.piece_text here.now.scene.now.program.now here.now.view.now piece.now) }
+{
+    match piece {
+        FragValuePart::Text(text) => Ok(Some(text.share()?)),
+        FragValuePart::Show(part) => text_at(here, part),
+    }
+}
+
+// The texts of the parts, joined.
+fn join(here: &Here<'_>, pieces: &[FragValuePart]) -> Result<Option<Text>, NoMemory>
+    ensures { IfOk result (λ text. text ≡ spec.joined_after here.now.scene.now.program.now here.now.view.now [] pieces.now) }
+{
+    let mut whole = String::new(here.scene.alloc);
+    for piece in pieces {
+        match piece_text(here, piece)? {
+            Some(text) => whole.push_str(text.as_str())?,
+            None => return Ok(None),
+        }
+    }
+    Ok(Some(Text::new(here.scene.alloc, whole.as_str())?))
+}
+
+/// The value of parts: that of one expression alone, or else their texts, joined.
+pub fn parts_value(here: &Here<'_>, pieces: &[FragValuePart]) -> Result<Option<Held>, NoMemory>
+    ensures { IfOk result (λ value. value ≡ spec.parts_value here.now.scene.now.program.now here.now.view.now pieces.now) }
+{
+    match alone(pieces) {
+        Some(part) => value_at(here, part),
+        None => match join(here, pieces)? {
+            Some(text) => Ok(Some(Held::new(Value::Text(text)))),
+            None => Ok(None),
+        },
+    }
+}
