@@ -2,7 +2,7 @@
 use Rattle.std.specs.Prelude.{◌≡◌, ◌≤◌, codes, is_some, count_by}
 use Rattle.std.specs.Str.{bytes_eq}
 use Rattle.sv_html.specs.Html.{laid}
-use Rattle.sv_document.specs.declared.element.Element.{Element}
+use Rattle.sv_document.specs.Element.{Element}
 use Rattle.sv_document.specs.Shown.{value_at, text_at, shown_value, is_checked}
 
 -- The text that an element shows as its value is the one that is printed as its attribute `value`.

@@ -1,4 +1,5 @@
 pub mod Listener
+pub mod Element
 pub mod Shown
 pub mod Printed
 pub mod Target

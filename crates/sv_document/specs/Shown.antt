@@ -9,7 +9,7 @@ use Rattle.sv_tokens.specs.declared.element.Attr.TheVariants as attr
 use Rattle.sv_tokens.specs.declared.element.Attribute.{Attribute}
 use Rattle.sv_tokens.specs.declared.element.Typed.{Typed}
 use Rattle.sv_tokens.specs.declared.element.Typed.TheVariants as typed
-use Rattle.sv_document.specs.declared.element.Element.{Element}
+use Rattle.sv_document.specs.Element.{Element}
 
 -- what an element shows of its own
 abbrev pub shape_of : Element → Shape

@@ -3,7 +3,7 @@ use Rattle.std.specs.Prelude.{ℕ, List, [], ◌∷◌, ◌++◌, Option, None, 
 use Rattle.std.specs.List.{list_any}
 use Rattle.std.specs.Option.{option_or}
 use Rattle.sv_tokens.specs.Token.{is_id}
-use Rattle.sv_document.specs.declared.element.Element.{Element}
+use Rattle.sv_document.specs.Element.{Element}
 use Rattle.sv_document.specs.declared.tree.Node.{Node, Node-F, fold-Node}
 
 -- elements, each inside the next

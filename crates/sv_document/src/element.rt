@@ -3,8 +3,10 @@ ghost use Rattle.std.specs.Prelude.{◌≡◌, option_map, option_copied};
 ghost use Rattle.sv_document.specs.Shown as spec;
 
 use crate::listener::Listener;
+use std::marker::Model;
 use sv_base::Text;
 use sv_tokens::{Attr, Attribute, Typed};
+use sv_value::Inst;
 
 /// The attributes of an element, in the order of the template.
 pub type Attributes = sv_list::Items<Attribute>;
@@ -12,16 +14,32 @@ pub type Attributes = sv_list::Items<Attribute>;
 /// The directives of an element that events are told, in the order of the text.
 pub type Listeners = sv_list::Items<Listener>;
 
-/// An element without its children: its mark and its printed number, its name, the attributes that the page gives it, what a
-/// user left in it, and who is told of events.
+/// An element without its children: the instance in whose shape it stands, its mark there and its printed number, its name, the
+/// attributes that the page gives it, what a user left in it, and who is told of events. Content of a slot stands in the shape of
+/// the component that has the slot. A clause sees the instance as its number.
 #[derive(Drop)]
 pub struct Element {
+    pub inst: Inst,
     pub mark: u64,
     pub number: Option<u64>,
     pub name: Text,
     pub attributes: Attributes,
     pub typed: Option<Typed>,
     pub listeners: Listeners,
+}
+
+impl Model for Element {
+    ghost use Rattle.std.specs.Coded.{codes};
+    ghost use Rattle.sv_document.specs.Element.{Element};
+    ghost use Rattle.sv_document.specs.contracts.listener.Listener as listener;
+    ghost use Rattle.sv_tokens.specs.contracts.element.Attribute as attribute;
+    ghost use Rattle.sv_tokens.specs.contracts.element.Typed as left;
+
+    ghost Value = { Element };
+
+    ghost coded = { Prim.hlevel (codes, listener.the_row.coded, attribute.the_row.coded, left.the_row.coded) };
+
+    ghost view = { λ e. record { inst = e.inst.number; mark = e.mark; number = e.number; name = e.name; attributes = e.attributes; typed = e.typed; listeners = e.listeners } };
 }
 
 impl Element {

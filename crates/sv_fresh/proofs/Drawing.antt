@@ -18,7 +18,7 @@ use Rattle.sv_document.specs.declared.tree.Node.TheVariants as node
 use Rattle.sv_fresh.specs.Blocks.{chosen, items_in}
 use Rattle.sv_fresh.specs.Each.{each}
 use Rattle.sv_fresh.specs.Fresh.{Drawer, Descent, walker, ArmDrawer, Walker, walked, frag_step, arm_step, slotted, text_node, shown_text, element_of, child_drawn, content_drawn, list_nodes, rows_nodes, instance_nodes, drawn, drawn_all}
-use Rattle.sv_fresh.specs.Scene.{Page, Scene, Tags, markup_at, parts_at}
+use Rattle.sv_fresh.specs.Scene.{Page, Scene, Tags, within, markup_at, parts_at}
 use Rattle.sv_fresh.specs.Values.{value_at, text_at, holds_at}
 use Rattle.sv_fresh.specs.declared.blocks.RowNames.{RowNames}
 use Rattle.sv_fresh.specs.Slots.{props}
@@ -91,7 +91,7 @@ module _ (s : Scene) (f : Frag) (v : View) (old : Option Shape) where
   in-Show part is = rw (is, drawn-out, frag.outs-Show) refl
 
   pub in-Element : (span : Span) (name : List ℕ) (attrs : List FragAttr) (kids : List Frag) → f ≡ frag.Element span name attrs kids →
-      drawn s f v old ≡ node.Element (element_of s.page.program name attrs v (opened old)) (drawn_all s kids v (parts_in (opened old))) ∷ []
+      drawn s f v old ≡ node.Element (element_of s.page name attrs v (opened old)) (drawn_all s kids v (parts_in (opened old))) ∷ []
   in-Element span name attrs kids is = rw (is, drawn-out, frag.outs-Element, drawn_all-is) refl
 
   pub in-Tag : (k : ℕ) (reads : Reading) → f ≡ frag.Tag k reads → drawn s f v old ≡ child_drawn s k v (place_in (opened old))
@@ -133,7 +133,7 @@ not-live page zero tags owner n e = refl
 not-live page (suc room) tags owner n e = rw e refl
 
 pub instance-drawn : (page : Page) (room left : ℕ) (tags : Tags) (owner : Option View) (n : ℕ) (v : View) → room ≡ suc left → presented_before owner page.world.states page.world.modules n ≡ Some v →
-    instance_nodes page room tags owner n ≡ drawn_all (record { page = page; room = left; tags = tags }) (markup_at page n) v (parts_at page n)
+    instance_nodes page room tags owner n ≡ drawn_all (record { page = within page n; room = left; tags = tags }) (markup_at page n) v (parts_at page n)
 unfolding instance_nodes drawn_all
 instance-drawn page room left tags owner n v e is = rw (e, is) refl
 

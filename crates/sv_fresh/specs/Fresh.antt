@@ -8,14 +8,14 @@ use Rattle.sv_code.specs.declared.fragments.FragAttr.{FragAttr}
 use Rattle.sv_code.specs.declared.fragments.LetName.{LetName}
 use Rattle.sv_code.specs.declared.parts.Part.{Part}
 use Rattle.sv_code.specs.declared.program.Program.{Program}
-use Rattle.sv_document.specs.declared.element.Element.{Element}
+use Rattle.sv_document.specs.Element.{Element}
 use Rattle.sv_document.specs.declared.tree.Node.{Node}
 use Rattle.sv_document.specs.declared.tree.Node.TheVariants as node
 use Rattle.sv_fresh.specs.Attributes.{attributes}
 use Rattle.sv_fresh.specs.Blocks.{chosen, items_in, row_view, row_parts}
 use Rattle.sv_fresh.specs.Each.{each}
 use Rattle.sv_fresh.specs.Listeners.{listeners}
-use Rattle.sv_fresh.specs.Scene.{Page, Scene, Tags, markup_at, parts_at}
+use Rattle.sv_fresh.specs.Scene.{Page, Scene, Tags, within, markup_at, parts_at}
 use Rattle.sv_fresh.specs.Slots.{props}
 use Rattle.sv_fresh.specs.Values.{value_at, text_at}
 use Rattle.sv_fresh.specs.declared.blocks.RowNames.{RowNames}
@@ -58,13 +58,13 @@ abbrev pub shown_text : Option ℕ → Option (List ℕ) → List Node
 shown_text mark t = option_to_list (option_map (text_node mark) t)
 
 -- an element without its children
-abbrev pub element_of : Program → List ℕ → List FragAttr → View → Opened → Element
-element_of p name attrs v old =
-    record { mark = unwrap_or (element_in old) 0; number = None; name = name; attributes = attributes p v attrs; typed = typed_in old; listeners = listeners p v attrs }
+abbrev pub element_of : Page → List ℕ → List FragAttr → View → Opened → Element
+element_of page name attrs v old =
+    record { inst = page.inst; mark = unwrap_or (element_in old) 0; number = None; name = name; attributes = attributes page.program v attrs; typed = typed_in old; listeners = listeners page.program v attrs }
 
 -- an element with its children
-abbrev pub element_nodes : Program → List ℕ → List FragAttr → Walker → View → Opened → List Node
-element_nodes p name attrs walk v old = node.Element (element_of p name attrs v old) (walk v (parts_in old)) ∷ []
+abbrev pub element_nodes : Page → List ℕ → List FragAttr → Walker → View → Opened → List Node
+element_nodes page name attrs walk v old = node.Element (element_of page name attrs v old) (walk v (parts_in old)) ∷ []
 
 -- ---- component tags and slots
 
@@ -110,7 +110,7 @@ Given = List ℕ → Option (List LetName × Walker)
 abbrev pub frag_step : Page → Descent → Tags → Given → Frag-F Drawer ArmDrawer → View → Opened → List Node
 frag_step page descend tags given (Frag-F.Text t) v old = text_node (mark_in old) t ∷ []
 frag_step page descend tags given (Frag-F.Show part) v old = shown_text (mark_in old) (text_at page.program v part)
-frag_step page descend tags given (Frag-F.Element span name attrs children) v old = element_nodes page.program name attrs (walked children) v old
+frag_step page descend tags given (Frag-F.Element span name attrs children) v old = element_nodes page name attrs (walked children) v old
 frag_step page descend tags given (Frag-F.Tag k reads) v old = tag_nodes page descend tags k v (place_in old)
 frag_step page descend tags given (Frag-F.Named slot lets inner) v old = []
 frag_step page descend tags given (Frag-F.Slot span name attrs own reads) v old = slot_nodes page.program (given name) attrs (walked own) v (parts_in old)
@@ -145,7 +145,7 @@ unfoldable pub instance_nodes : Page → ℕ → Descent
 instance_nodes page zero tags owner n = []
 instance_nodes page (suc room) tags owner n =
     viewed (presented_before owner page.world.states page.world.modules n)
-    (λ v. walker page (instance_nodes page room) tags (slotted page (instance_nodes page room) tags) (markup_at page n) v (parts_at page n))
+    (λ v. walker (within page n) (instance_nodes (within page n) room) tags (slotted (within page n) (instance_nodes (within page n) room) tags) (markup_at page n) v (parts_at page n))
 
 -- a fragment of a scene
 unfoldable pub drawn : Scene → Frag → Drawer
@@ -167,4 +167,4 @@ content_drawn s c attrs v parts = drawn_all (record s { tags = outer_tags s.tags
 
 -- the root has the number 1 and no owner
 unfoldable pub fresh : Program → World → Showing → List Node
-fresh program world showing = instance_nodes (record { program = program; world = world; showing = showing }) DEPTH_LIMIT (None ∷ []) None 1
+fresh program world showing = instance_nodes (record { program = program; world = world; showing = showing; inst = 1 }) DEPTH_LIMIT (None ∷ []) None 1

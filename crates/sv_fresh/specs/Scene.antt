@@ -1,5 +1,5 @@
 -- What a page is drawn from.
-use Rattle.std.specs.Prelude.{ℕ, List, [], Option, Some, None}
+use Rattle.std.specs.Prelude.{ℕ, List, [], Option}
 use Rattle.std.specs.Option.{option_map_or}
 use Rattle.sv_code.specs.declared.fragments.Frag.{Frag}
 use Rattle.sv_code.specs.declared.program.Program.{Program}
@@ -9,11 +9,16 @@ use Rattle.sv_shapes.specs.Showing.{Showing, shown_of}
 use Rattle.sv_shapes.specs.declared.shape.Shape.{Shape}
 use Rattle.sv_world.specs.declared.world.World.{World}
 
--- a program, the present states, and what is recorded as shown
+-- a program, the present states, what is recorded as shown, and the number of the instance in whose shape is drawn
 pub record Page : Type 0 where
   pub program : Program
   pub world : World
   pub showing : Showing
+  pub inst : ℕ
+
+-- the same, where is drawn in the shape of an instance with a number
+abbrev pub within : Page → ℕ → Page
+within page n = record page { inst = n }
 
 -- the numbers of the tags with which the instances of a view stand in their owners' markup, its own first
 abbrev pub Tags : Type 0
@@ -27,7 +32,7 @@ pub record Scene : Type 0 where
 
 -- the scene that code is handed
 abbrev pub seen : handed.Scene → Scene
-seen s = record { page = record { program = s.program.now; world = s.world.now; showing = s.showing.now }; room = s.room; tags = s.tags.now }
+seen s = record { page = record { program = s.program.now; world = s.world.now; showing = s.showing.now; inst = s.inst.number }; room = s.room; tags = s.tags.now }
 
 -- ---- instances
 

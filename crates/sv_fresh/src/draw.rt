@@ -264,7 +264,11 @@ pub fn draw_instance(
     let Some(view) = scene.world.present_before(scene.alloc, inst, owner)? else {
         return Ok(());
     };
-    let inside = Scene { room, ..*scene };
+    let inside = Scene {
+        inst,
+        room,
+        ..*scene
+    };
     draw_on(
         &inside,
         &view,

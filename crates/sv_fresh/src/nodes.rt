@@ -2,6 +2,7 @@
 ghost use Rattle.std.specs.Prelude.{◌≡◌, ◌++◌, option_copied, IfOk, OnOk};
 ghost use Rattle.sv_shapes.specs.Shapes.{opened};
 ghost use Rattle.sv_fresh.specs.Fresh as spec;
+ghost use Rattle.sv_fresh.specs.Scene.{seen};
 ghost use Rattle.sv_fresh.specs.Values.{text_at as text_found};
 
 use crate::attributes::attributes;
@@ -57,13 +58,14 @@ pub fn element(
     attrs: &[FragAttr],
     shape: Option<&Shape>,
 ) -> Result<Element, NoMemory>
-    ensures { IfOk result (λ element. element ≡ spec.element_of here.now.scene.now.program.now name.now attrs.now here.now.view.now (opened (option_copied shape.entry))) }
+    ensures { IfOk result (λ element. element ≡ spec.element_of (seen here.now.scene.now).page name.now attrs.now here.now.view.now (opened (option_copied shape.entry))) }
 {
     let typed = share_typed(typed_of(shape))?;
     let name = name.share()?;
     let attributes = attributes(here, attrs)?;
     let listeners = listeners(here, attrs)?;
     Ok(Element {
+        inst: here.scene.inst,
         mark: element_of(shape).unwrap_or(0),
         number: None,
         name,

@@ -24,15 +24,16 @@ pub fn render(
 ) -> Result<Nodes, NoMemory>
     ensures { IfOk result (λ nodes. nodes ≡ fresh program.now world.now shown.now) }
 {
+    let root = Inst { key: 0, number: 1 };
     let scene = Scene {
         alloc,
         program,
         world,
         showing: shown,
+        inst: root,
         room: DEPTH_LIMIT,
         tags: &[None],
     };
-    let root = Inst { key: 0, number: 1 };
     let mut nodes = Items::new(alloc);
     draw_instance(&scene, root, None, &mut nodes)?;
     Ok(nodes)

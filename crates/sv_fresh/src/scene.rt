@@ -10,15 +10,16 @@ use sv_value::Inst;
 use sv_view::View;
 use sv_world::World;
 
-/// The program; the present states; what is recorded as shown; how deep components may still stand below; and for each level of the view that is
-/// drawn on, its own first, the number of the tag with which that instance stands in its owner's markup. What is made takes its memory from
-/// `alloc`.
+/// The program; the present states; what is recorded as shown; the instance in whose shape is drawn; how deep components may still stand below;
+/// and for each level of the view that is drawn on, its own first, the number of the tag with which that instance stands in its owner's markup.
+/// What is made takes its memory from `alloc`.
 #[derive(Clone, Copy)]
 pub struct Scene<'a> {
     pub alloc: Global,
     pub program: &'a Program,
     pub world: &'a World,
     pub showing: &'a Showing,
+    pub inst: Inst,
     pub room: u32,
     pub tags: &'a [Option<u32>],
 }

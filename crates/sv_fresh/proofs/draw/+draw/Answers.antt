@@ -8,7 +8,7 @@ use Rattle.sv_view.specs.Level.{View}
 use Rattle.sv_fresh.specs.Blocks.{chosen, items_in}
 use Rattle.sv_fresh.specs.Fresh.{drawn_all, shown_text, child_drawn, content_drawn, list_nodes}
 use Rattle.sv_fresh.specs.Values.{value_at, text_at}
-use Rattle.sv_fresh.specs.Scene.{Scene, Tags, seen, markup_at}
+use Rattle.sv_fresh.specs.Scene.{Scene, Tags, seen, within, markup_at}
 use Rattle.sv_fresh.proofs.Drawing.{in-Text, in-Show, in-Element, in-Tag, in-Named, in-Key, in-If, in-Each, in-own, in-given, draws, drawn-each, at-bottom, not-live, instance-drawn, no-room, room-left}
 use Rattle.sv_fresh.proofs.Weights.{same, upward, downward, inward, inside, whole, weight, weights, arms_weight, item-weight, weight-Tag, weight-Element, weight-Slot, weight-If, weight-Each, weight-Key, chosen-weight, content-weight, content-level, markup-weight}
 use Rattle.sv_fresh.proofs.draw.+draw.Goals as goal
@@ -174,7 +174,7 @@ draw_instance-draw_on-requires t c =
 
 pub draw_instance-returns : goal.draw_instance-returns
 draw_instance-returns t c =
-    let s : Scene = record (seen c.args.scene.now) { room = c.in-Some.room } in
+    let s : Scene = record (seen c.args.scene.now) { page = within (seen c.args.scene.now).page c.args.inst.number; room = c.in-Some.room } in
     draws _ _ _ (drawn_all s c.markup_at.result.now c.in-Some-2.view c.parts_at.result.now) _ c.draw_on.ensures
     (rw (c.markup_at.ensures, c.parts_at.ensures) (instance-drawn _ _ _ _ _ _ _ (room-left _ _ _ c.checked_sub.ensures c.in-Some.is) (sym c.in_ok-view.ensures ∙ c.in-Some-2.is)))
 
