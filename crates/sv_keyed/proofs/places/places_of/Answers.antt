@@ -13,8 +13,8 @@ loop-i-preserved c =
     record {
       finds = finds-more _ _ c.args.keys.now c.loop-i.i c.index-keys-i.result here c.loop-i.invariant.finds c.in_ok-note_place.ensures;
       rest = λ k.
-        c.loop-i.invariant.rest k ∙ place-more c.args.keys.now c.loop-i.i c.index-keys-i.result k _ here
-        ∙ ap (λ f. place_after f (c.loop-i.i + 1) (drop (c.loop-i.i + 1) c.args.keys.now) k) (sym (c.in_ok-note_place.ensures k));
+          c.loop-i.invariant.rest k ∙ place-more c.args.keys.now c.loop-i.i c.index-keys-i.result k _ here
+          ∙ ap (λ f. place_after f (c.loop-i.i + 1) (drop (c.loop-i.i + 1) c.args.keys.now) k) (sym (c.in_ok-note_place.ensures k));
     }
 
 pub returns : goal.returns
