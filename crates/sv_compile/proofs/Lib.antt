@@ -8,3 +8,4 @@ pub mod TagFiles
 pub mod Standing
 pub mod Compiled
 pub mod Wholes
+pub mod OneOrder

@@ -28,7 +28,7 @@ use Rattle.sv_compile.specs.Runs.{reactives, runs}
 use Rattle.sv_compile.specs.Compile.{component, numbered_one, tree_code, file, files_code, first_tables, program, program_of}
 
 -- points are placed in one way
-visits_same : {links : ℕ → List ℕ} (placed points a b : List ℕ) → Visits links placed points a → Visits links placed points b → a ≡ b
+pub visits_same : {links : ℕ → List ℕ} (placed points a b : List ℕ) → Visits links placed points a → Visits links placed points b → a ≡ b
 visits_same _ _ _ _ none none = refl
 visits_same _ _ _ _ (again h v) (again h' v') = visits_same _ _ _ _ v v'
 visits_same _ _ _ _ (again h v) (first h' v' w') = absurd (true≢false (sym h ∙ h'))

@@ -11,5 +11,5 @@ mod program;
 mod runs;
 mod top_level;
 
-pub use laws::one_program;
+pub use laws::{one_order, one_program};
 pub use program::compile;
