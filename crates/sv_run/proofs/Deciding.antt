@@ -1,21 +1,29 @@
 -- What has been learned of the files, and what it calls for.
-use Rattle.std.proofs.Common.{◌≡◌, ◌<◌, ℕ, List, [], length, Option, refl, sym, ap, subst, ◌∙◌}
-use Rattle.std.specs.Prelude.{Some, None, Result, Ok, Err, IfOk, IfSome, slice_get}
+use Rattle.std.proofs.Common.{◌≡◌, ◌<◌, ◌≤◌, ℕ, Bool, true, false, List, [], length, Option, refl, sym, ap, subst, ◌∙◌}
+use Rattle.std.specs.Prelude.{Some, None, Result, Ok, Err, Vec, IfOk, IfSome, slice_get}
+use Rattle.std.specs.declared.alloc.Global.{Global}
 use Rattle.std.proofs.lemmas.Option.{none-some, slice_get_within}
 use Rattle.sv_ast.specs.declared.files.Bundle.{Bundle}
 use Rattle.sv_ast.specs.declared.files.SourceFile.{SourceFile}
+use Rattle.sv_base.specs.declared.limits.TheConstants.{EVENTS_FILE_LIMIT}
 use Rattle.sv_check.specs.declared.checked.CheckedComponent.{CheckedComponent}
 use Rattle.sv_check.specs.Checked.{IsFirstMistake, IsClean, AreChecked}
+use Rattle.sv_code.specs.declared.program.Program.{Program}
 use Rattle.sv_compile.specs.Compile.{program}
-use Rattle.sv_io.specs.Files.{Files}
+use Rattle.sv_events.specs.EventsFile.{events_of}
+use Rattle.sv_events.specs.declared.event.Event.{Event}
+use Rattle.sv_io.specs.Files.{Files, find_file}
+use Rattle.sv_io.specs.Shelf.{IsGot, IsWithin}
+use Rattle.sv_io.specs.declared.shelf.Got.{Got}
+use Rattle.sv_io.specs.declared.shelf.Got.TheVariants.{Bytes, Missing, TooLong}
 use Rattle.sv_listing.specs.Listing.{listing}
 use Rattle.sv_load.specs.Loads.{Loads, Reads, nothing as no_files}
 use Rattle.sv_load.specs.declared.refusals.LoadError.{LoadError}
 use Rattle.sv_load.specs.declared.refusals.LoadError.TheVariants as load
 use Rattle.sv_resolve.specs.declared.refusals.CheckRefusal.{CheckRefusal}
-use Rattle.sv_run.specs.Answer.{Answer, usage, missing, source, events, turns, accepted, listed, Fault, fault_text, Found, nothing, refused, holding, IsProgram, AreEvents, IsPlayed, no_program, bad_program, no_events, bad_events, plays, load_answer, mistake_answer, IsMistaken, IsUnfit, not_loaded, mistaken, IsChecked, unfit, clean, IsPrinted, unfit_too, compiled, IsAnswer, no_form, runs, checks, prints}
-use Rattle.sv_counter.specs.Form.{Form}
-use Rattle.sv_run.specs.Words.{IsRun, IsCheck, IsPrint, IsNoForm}
+use Rattle.sv_run.specs.Answer.{Answer, usage, missing, events, turns, accepted, listed, load_answer, mistake_answer, IsMistaken, IsUnfit, not_loaded, mistaken, Accepts, IsChecked, unfit, clean, IsPrinted, unfit_too, compiled, Compiles, told_answer, AreEvents, no_file, long_file, whole_file, IsPlayed, unfit_run, no_events, plays, IsAnswer, no_form, runs, checks, prints}
+use Rattle.sv_run.specs.Words.{IsRun, IsCheck, IsPrint, IsNoRunOf, IsNoRun, IsNoForm}
+use Rattle.sv_run.specs.declared.kinds.EventsFault.TheVariants as faults
 
 -- what holds of every value holds of the one that is told
 pub told : {T : Type 0} (o : Option T) {P : T → Type 0} → ((x : T) → o ≡ Some x → P x) → IfSome o P
@@ -33,42 +41,6 @@ some_both (Some x) f p q = f x p q
 pub ok_weaker : {A E : Type 0} (r : Result A E) {P Q : A → Type 0} → ((x : A) → P x → Q x) → IfOk r P → IfOk r Q
 ok_weaker (Ok x) f p = f x p
 ok_weaker (Err e) f p = tt
-
--- ---- `run ROOT EVENTS`: each cause calls for its answer, where the files are told
-
-pub calls-no_program : (o : Option Files) (root file name : List ℕ) (found : Found Form) → name ≡ root → found ≡ nothing
-    → IfSome o (λ files. IsProgram files root found) → IfSome o (λ files. IsPlayed files root file (missing name))
-calls-no_program o root file name found same is = some_weaker o (λ files program.
-    let program' : IsProgram files root nothing = rw is at program in rw same (no_program program'))
-
-pub calls-bad_program : (o : Option Files) (root file name word : List ℕ) (found : Found Form) (fault : Fault) → name ≡ root → word ≡ fault_text fault → found ≡ refused fault
-    → IfSome o (λ files. IsProgram files root found) → IfSome o (λ files. IsPlayed files root file (source name word))
-calls-bad_program o root file name word found fault same text is = some_weaker o (λ files program.
-    let program' : IsProgram files root (refused fault) = rw is at program in rw (same, text) (bad_program fault program'))
-
-pub calls-no_events : (o : Option Files) (root file name : List ℕ) (found : Found Form) (form : Form) (clicks : Found (List (List ℕ)))
-    → name ≡ file → found ≡ holding form → clicks ≡ nothing
-    → IfSome o (λ files. IsProgram files root found) → IfSome o (λ files. AreEvents files file clicks) → IfSome o (λ files. IsPlayed files root file (missing name))
-calls-no_events o root file name found form clicks same is none = some_both o (λ files program found_events.
-    let program' : IsProgram files root (holding form) = rw is at program in
-    let clicks' : AreEvents files file nothing = rw none at found_events in
-    rw same (no_events form program' clicks'))
-
-pub calls-bad_events : (o : Option Files) (root file : List ℕ) (found : Found Form) (form : Form) (clicks : Found (List (List ℕ))) (fault : Fault)
-    → found ≡ holding form → clicks ≡ refused fault
-    → IfSome o (λ files. IsProgram files root found) → IfSome o (λ files. AreEvents files file clicks) → IfSome o (λ files. IsPlayed files root file (events fault))
-calls-bad_events o root file found form clicks fault is bad = some_both o (λ files program found_events.
-    let program' : IsProgram files root (holding form) = rw is at program in
-    let events' : AreEvents files file (refused fault) = rw bad at found_events in
-    bad_events form fault program' events')
-
-pub calls-plays : (o : Option Files) (root file : List ℕ) (found : Found Form) (form : Form) (clicks : Found (List (List ℕ))) (ids : List (List ℕ))
-    → found ≡ holding form → clicks ≡ holding ids
-    → IfSome o (λ files. IsProgram files root found) → IfSome o (λ files. AreEvents files file clicks) → IfSome o (λ files. IsPlayed files root file (turns form ids))
-calls-plays o root file found form clicks ids is read = some_both o (λ files program found_events.
-    let program' : IsProgram files root (holding form) = rw is at program in
-    let events' : AreEvents files file (holding ids) = rw read at found_events in
-    plays form ids program' events')
 
 -- ---- `check ROOT`
 
@@ -95,7 +67,7 @@ calls-unfit o root answer = some_weaker o (λ files is. unfit answer is)
 
 pub calls-clean : (o : Option Files) (root : List ℕ) (bundle : Bundle) → IsClean bundle → IfSome o (λ files. Loads files root (Ok bundle))
     → IfSome o (λ files. IsChecked files root accepted)
-calls-clean o root bundle is = some_weaker o (λ files loads. clean bundle loads is)
+calls-clean o root bundle is = some_weaker o (λ files loads. clean bundle (record { loaded = loads; is_clean = is }))
 
 pub calls-unfit_too : (o : Option Files) (root : List ℕ) (answer : Answer) → IfSome o (λ files. IsUnfit files root answer) → IfSome o (λ files. IsPrinted files root answer)
 calls-unfit_too o root answer = some_weaker o (λ files is. unfit_too answer is)
@@ -103,7 +75,50 @@ calls-unfit_too o root answer = some_weaker o (λ files is. unfit_too answer is)
 pub calls-compiled : (o : Option Files) (root : List ℕ) (bundle other : Bundle) (all : List CheckedComponent) (answer : Answer) → IsClean bundle → other ≡ bundle → AreChecked bundle all
     → answer ≡ listed (listing (program other all [])) → IfSome o (λ files. Loads files root (Ok bundle)) → IfSome o (λ files. IsPrinted files root answer)
 calls-compiled o root bundle other all answer is same checked told = some_weaker o (λ files loads.
-    subst (IsPrinted files root) (sym (told ∙ ap (λ b. listed (listing (program b all []))) same)) (compiled bundle all loads is checked))
+    subst (IsPrinted files root) (sym (told ∙ ap (λ b. listed (listing (program b all []))) same)) (compiled bundle all (record { loaded = loads; is_clean = is }) checked))
+
+-- ---- the events file
+
+pub events-read : (o : Option Files) (file : List ℕ) (got : Got) (bytes : Vec ℕ Global) (text : List ℕ) (outcome : Result (List Event) Answer) → got ≡ Bytes bytes → text ≡ bytes.items
+    → IsWithin EVENTS_FILE_LIMIT got → told_answer (events_of text) ≡ Some outcome → IfSome o (λ files. IsGot files file EVENTS_FILE_LIMIT got) → IfSome o (λ files. AreEvents files file outcome)
+events-read o file got bytes text outcome is same within told = some_weaker o (λ files found.
+    let there : find_file files file ≡ Some bytes.items = subst (IsGot files file EVENTS_FILE_LIMIT) is found in
+    let short : length bytes.items ≤ EVENTS_FILE_LIMIT = subst (IsWithin EVENTS_FILE_LIMIT) is within in
+    whole_file bytes.items outcome there short (subst (λ z. told_answer (events_of z) ≡ Some outcome) same told))
+
+pub events-missing : (o : Option Files) (file : List ℕ) (got : Got) (name : List ℕ) → got ≡ Missing → name ≡ file
+    → IfSome o (λ files. IsGot files file EVENTS_FILE_LIMIT got) → IfSome o (λ files. AreEvents files file (Err (missing name)))
+events-missing o file got name is same = some_weaker o (λ files found.
+    let none : find_file files file ≡ None = subst (IsGot files file EVENTS_FILE_LIMIT) is found in
+    subst (λ n. AreEvents files file (Err (missing n))) (sym same) (no_file none))
+
+pub events-long : (o : Option Files) (file : List ℕ) (got : Got) → got ≡ TooLong
+    → IfSome o (λ files. IsGot files file EVENTS_FILE_LIMIT got) → IfSome o (λ files. AreEvents files file (Err (events faults.TooLong)))
+events-long o file got is = some_weaker o (λ files found.
+    let long : IsGot files file EVENTS_FILE_LIMIT TooLong = subst (IsGot files file EVENTS_FILE_LIMIT) is found in
+    long_file long.0 long.1 long.2)
+
+-- ---- `run ROOT EVENTS`
+
+pub calls-unfit_run : (o : Option Files) (root file : List ℕ) (logs : Bool) (answer : Answer) → IfSome o (λ files. IsUnfit files root answer) → IfSome o (λ files. IsPlayed files root file logs answer)
+calls-unfit_run o root file logs answer = some_weaker o (λ files is. unfit_run answer is)
+
+pub calls-no_events : (o : Option Files) (file : List ℕ) (bundle : Bundle) (logs : Bool) (outcome : Result (List Event) Answer) (answer : Answer) → outcome ≡ Err answer
+    → IfSome o (λ files. AreEvents files file outcome) → IfSome o (λ files. (root : List ℕ) → Accepts files root bundle → IsPlayed files root file logs answer)
+calls-no_events o file bundle logs outcome answer same = some_weaker o (λ files told root accepts. no_events bundle answer accepts (subst (AreEvents files file) same told))
+
+pub calls-plays : (o : Option Files) (file : List ℕ) (bundle : Bundle) (logs : Bool) (outcome : Result (List Event) Answer) (made : Program) (list : List Event) → outcome ≡ Ok list → Compiles bundle made
+    → IfSome o (λ files. AreEvents files file outcome) → IfSome o (λ files. (root : List ℕ) → Accepts files root bundle → IsPlayed files root file logs (turns made logs list))
+calls-plays o file bundle logs outcome made list same compiles = some_weaker o (λ files told root accepts. plays bundle made list accepts compiles (subst (AreEvents files file) same told))
+
+pub calls-played : (o after : Option Files) (root file : List ℕ) (bundle other : Bundle) (logs : Bool) (answer : Answer) → after ≡ o → IsClean bundle → other ≡ bundle
+    → IfSome o (λ files. Loads files root (Ok bundle)) → IfSome after (λ files. (root : List ℕ) → Accepts files root other → IsPlayed files root file logs answer)
+    → IfSome o (λ files. IsPlayed files root file logs answer)
+calls-played o after root file bundle other logs answer still is same loads given =
+    some_both o (λ files loaded given. given root (subst (Accepts files root) (sym same) (record { loaded = loaded; is_clean = is }))) loads
+    (subst (λ z. IfSome z (λ files. (root : List ℕ) → Accepts files root other → IsPlayed files root file logs answer)) still given)
+
+-- ---- mistakes
 
 -- the file of a mistake is there
 pub file_of_mistake : (bundle : Bundle) (m : CheckRefusal) → IsFirstMistake bundle m → (file : SourceFile) × (slice_get bundle.files m.at.file ≡ Some file)
@@ -126,9 +141,14 @@ mistaken_is bundle m answer is told =
 pub calls-usage : (o : Option Files) (words : List (List ℕ)) → IsNoForm words → IfSome o (λ files. IsAnswer words files usage)
 calls-usage o words none = told o (λ files is. no_form none)
 
-pub calls-run : (o : Option Files) (words : List (List ℕ)) (root file : List ℕ) (answer : Answer) → IsRun words root file
-    → IfSome o (λ files. IsPlayed files root file answer) → IfSome o (λ files. IsAnswer words files answer)
-calls-run o words root file answer run = some_weaker o (λ files played. runs root file answer run played)
+-- words that are a run neither without logs nor with them are none
+pub no_run : (words : List (List ℕ)) → IsNoRunOf false words → IsNoRunOf true words → IsNoRun words
+no_run words plain logged root file false is = plain root file is
+no_run words plain logged root file true is = logged root file is
+
+pub calls-run : (o : Option Files) (words : List (List ℕ)) (root file : List ℕ) (logs : Bool) (answer : Answer) → IsRun words root file logs
+    → IfSome o (λ files. IsPlayed files root file logs answer) → IfSome o (λ files. IsAnswer words files answer)
+calls-run o words root file logs answer run = some_weaker o (λ files played. runs root file logs answer run played)
 
 pub calls-check : (o : Option Files) (words : List (List ℕ)) (root : List ℕ) (answer : Answer) → IsCheck words root
     → IfSome o (λ files. IsChecked files root answer) → IfSome o (λ files. IsAnswer words files answer)

@@ -1,14 +1,23 @@
 -- How a run ends, by the answer that its words and files call for.
-use Rattle.std.proofs.Common.{◌≡◌, ℕ, List, Option, refl, sym, ◌∙◌, ap, subst, inl}
+use Rattle.std.proofs.Common.{◌≡◌, ℕ, Bool, true, false, List, Option, refl, sym, ◌∙◌, ap, subst, inl}
+use Rattle.std.specs.Prelude.{if◌then◌else◌}
 use Rattle.sv_io.specs.Files.{Files}
 use Rattle.sv_io.specs.Sink.{with_bytes, AppendsFront}
+use Rattle.sv_play.specs.Run.{run}
 use Rattle.sv_run.specs.Answer.{Answer, usage, missing, source, source_at, events, turns, accepted, listed, IsAnswer, status_of, text_of}
 use Rattle.sv_run.specs.Run.{Answers, BreaksOff, RunAnswers, RunCompletes, IsOneAnswer}
 use Rattle.sv_run.specs.declared.status.Status.{Status}
+use Rattle.sv_run.specs.declared.status.Status.TheVariants as statuses
 
 answer_given : (words : List (List ℕ)) (files : Files) (old new : Option (List ℕ)) (answer : Answer) → IsAnswer words files answer
     → new ≡ with_bytes old (text_of answer) → Answers words files old new (status_of answer)
 answer_given words files old new answer is written = record { answer = answer; called_for = is; given = record { status_is = refl; written = written } }
+
+-- turns end well, or at one that is refused
+turns_answered : (words : List (List ℕ)) (files : Files) (old new : Option (List ℕ)) (refused : Bool) → Answers words files old new (if refused then statuses.Turn else statuses.Ok)
+    → RunAnswers words files old new (if refused then statuses.Turn else statuses.Ok)
+turns_answered words files old new true given = given
+turns_answered words files old new false given = given
 
 answered : (words : List (List ℕ)) (files : Files) (old new : Option (List ℕ)) (answer : Answer) → IsAnswer words files answer
     → new ≡ with_bytes old (text_of answer) → RunAnswers words files old new (status_of answer)
@@ -17,7 +26,7 @@ answered words files old new (missing name) is written = answer_given words file
 answered words files old new (source file word) is written = answer_given words files old new (source file word) is written
 answered words files old new (source_at file line column word) is written = answer_given words files old new (source_at file line column word) is written
 answered words files old new (events fault) is written = answer_given words files old new (events fault) is written
-answered words files old new (turns form ids) is written = answer_given words files old new (turns form ids) is written
+answered words files old new (turns program logs list) is written = turns_answered words files old new (run program logs list).refused (answer_given words files old new (turns program logs list) is written)
 answered words files old new accepted is written = answer_given words files old new accepted is written
 answered words files old new (listed text) is written = answer_given words files old new (listed text) is written
 

@@ -1,62 +1,30 @@
 -- What a run is to answer, by its words and the files that the shelf tells.
-use Rattle.std.specs.Prelude.{◌≡◌, ℕ, ◌<◌, ◌≤◌, List, ◌∷◌, [], ◌++◌, length, Option, Some, None, Ok, Err, codes, decimal, slice_get}
+use Rattle.std.specs.Prelude.{◌≡◌, ℕ, ◌<◌, ◌≤◌, Bool, List, ◌∷◌, [], ◌++◌, length, Option, Some, None, option_map, Result, Ok, Err, codes, decimal, slice_get, if◌then◌else◌}
 use Rattle.sv_ast.specs.declared.files.Bundle.{Bundle}
 use Rattle.sv_ast.specs.declared.files.SourceFile.{SourceFile}
 use Rattle.sv_ast.specs.declared.refusals.Kind.TheVariants as kind
-use Rattle.sv_base.specs.declared.limits.TheConstants.{FILE_LIMIT, EVENTS_FILE_LIMIT}
+use Rattle.sv_base.specs.declared.limits.TheConstants.{EVENTS_FILE_LIMIT}
 use Rattle.sv_check.specs.declared.checked.CheckedComponent.{CheckedComponent}
 use Rattle.sv_check.specs.Checked.{IsFirstMistake, IsClean, AreChecked}
+use Rattle.sv_code.specs.declared.program.Program.{Program}
 use Rattle.sv_compile.specs.Compile.{program}
+use Rattle.sv_compile.specs.Modules.{AreModules}
+use Rattle.sv_events.specs.EventsFile.{Told, events_of}
+use Rattle.sv_events.specs.declared.event.Event.{Event}
 use Rattle.sv_io.specs.Files.{Files, find_file}
 use Rattle.sv_lines.specs.Lines.{line_in, column_in}
 use Rattle.sv_listing.specs.Listing.{listing}
 use Rattle.sv_load.specs.Loads.{Reads, nothing as no_files}
 use Rattle.sv_load.specs.declared.refusals.LoadError.{LoadError}
 use Rattle.sv_load.specs.declared.refusals.LoadError.TheVariants as load
+use Rattle.sv_play.specs.Run.{run}
 use Rattle.sv_resolve.specs.declared.refusals.CheckRefusal.{CheckRefusal}
-use Rattle.sv_counter.specs.EventsFile.{Clicks}
-use Rattle.sv_counter.specs.Form.{Form, Spells}
-use Rattle.sv_counter.specs.Page.{pages}
-use Rattle.sv_run.specs.Kinds.{parse_word, check_word}
+use Rattle.sv_run.specs.Kinds.{parse_word, check_word, fault_in, events_word}
 use Rattle.sv_run.specs.Words.{IsRun, IsCheck, IsPrint, IsNoForm}
+use Rattle.sv_run.specs.declared.kinds.EventsFault.{EventsFault}
+use Rattle.sv_run.specs.declared.kinds.EventsFault.TheVariants as faults
 use Rattle.sv_run.specs.declared.status.Status.{Status}
 use Rattle.sv_run.specs.declared.status.Status.TheVariants as statuses
-
--- why a file is refused
-pub data Fault : Type 0 where
-  too_long : Fault
-  not_built : Fault
-
--- the word for a fault
-abbrev pub fault_text : Fault → List ℕ
-fault_text too_long = codes "TooLong"
-fault_text not_built = codes "NotBuilt"
-
--- what is found under a name: nothing, a file that is refused, or a file that holds something
-pub data Found (A : Type 0) : Type 0 where
-  nothing : Found A
-  refused : Fault → Found A
-  holding : A → Found A
-
--- the file of that name is there, and is not too long
-pub record HasFile (files : Files) (name : List ℕ) (limit : ℕ) (bytes : List ℕ) : Type 0 where
-  pub there : find_file files name ≡ Some bytes
-  pub short : length bytes ≤ limit
-
--- what is found under a name, where `Holds` says what bytes hold
-abbrev pub IsFound : {A : Type 0} → Files → List ℕ → ℕ → (List ℕ → A → Type 0) → Found A → Type 0
-IsFound files name limit Holds nothing = find_file files name ≡ None
-IsFound files name limit Holds (refused too_long) = (bytes : List ℕ) × (find_file files name ≡ Some bytes) × (limit < length bytes)
-IsFound {A} files name limit Holds (refused not_built) = (bytes : List ℕ) × HasFile files name limit bytes × ((x : A) → Holds bytes x → ⊥)
-IsFound files name limit Holds (holding x) = (bytes : List ℕ) × HasFile files name limit bytes × Holds bytes x
-
--- what the root file is
-abbrev pub IsProgram : Files → List ℕ → Found Form → Type 0
-IsProgram files root found = IsFound files root FILE_LIMIT Spells found
-
--- what the events file is
-abbrev pub AreEvents : Files → List ℕ → Found (List (List ℕ)) → Type 0
-AreEvents files file found = IsFound files file EVENTS_FILE_LIMIT Clicks found
 
 -- what a run answers
 pub data Answer : Type 0 where
@@ -64,18 +32,10 @@ pub data Answer : Type 0 where
   missing : (name : List ℕ) → Answer
   source : (file word : List ℕ) → Answer
   source_at : (file : List ℕ) (line column : ℕ) (word : List ℕ) → Answer
-  events : Fault → Answer
-  turns : Form → (ids : List (List ℕ)) → Answer
+  events : EventsFault → Answer
+  turns : Program → (logs : Bool) → List Event → Answer
   accepted : Answer
   listed : (text : List ℕ) → Answer
-
--- What `run ROOT EVENTS` answers. The root file is looked at first, and the events file only where there is a program.
-pub data IsPlayed (files : Files) (root file : List ℕ) : Answer → Type 0 where
-  no_program : IsProgram files root nothing → IsPlayed files root file (missing root)
-  bad_program : (fault : Fault) → IsProgram files root (refused fault) → IsPlayed files root file (source root (fault_text fault))
-  no_events : (form : Form) → IsProgram files root (holding form) → AreEvents files file nothing → IsPlayed files root file (missing file)
-  bad_events : (form : Form) (fault : Fault) → IsProgram files root (holding form) → AreEvents files file (refused fault) → IsPlayed files root file (events fault)
-  plays : (form : Form) (ids : List (List ℕ)) → IsProgram files root (holding form) → AreEvents files file (holding ids) → IsPlayed files root file (turns form ids)
 
 -- what is answered where a program isn't loaded; a failed read and want of memory have no answer
 abbrev pub load_answer : LoadError → Option Answer
@@ -104,22 +64,54 @@ pub data IsUnfit (files : Files) (root : List ℕ) : Answer → Type 0 where
   not_loaded : (error : LoadError) (answer : Answer) → Reads files root no_files (Err error) → load_answer error ≡ Some answer → IsUnfit files root answer
   mistaken : (bundle : Bundle) (answer : Answer) → Reads files root no_files (Ok bundle) → IsMistaken bundle answer → IsUnfit files root answer
 
+-- a root component with all that it imports is a program without a mistake
+pub record Accepts (files : Files) (root : List ℕ) (bundle : Bundle) : Type 0 where
+  pub loaded : Reads files root no_files (Ok bundle)
+  pub is_clean : IsClean bundle
+
 -- What `check ROOT` answers.
 pub data IsChecked (files : Files) (root : List ℕ) : Answer → Type 0 where
   unfit : (answer : Answer) → IsUnfit files root answer → IsChecked files root answer
-  clean : (bundle : Bundle) → Reads files root no_files (Ok bundle) → IsClean bundle → IsChecked files root accepted
+  clean : (bundle : Bundle) → Accepts files root bundle → IsChecked files root accepted
 
 -- What `print ROOT` answers: where there is no mistake, the listing of what the program is compiled to. The
 -- order in which modules run isn't listed.
 pub data IsPrinted (files : Files) (root : List ℕ) : Answer → Type 0 where
   unfit_too : (answer : Answer) → IsUnfit files root answer → IsPrinted files root answer
-  compiled : (bundle : Bundle) (told : List CheckedComponent) → Reads files root no_files (Ok bundle) → IsClean bundle → AreChecked bundle told
+  compiled : (bundle : Bundle) (told : List CheckedComponent) → Accepts files root bundle → AreChecked bundle told
       → IsPrinted files root (listed (listing (program bundle told [])))
+
+-- what a program without a mistake is compiled to, with its module files in the order in which they run
+pub record Compiles (bundle : Bundle) (compiled : Program) : Type 0 where
+  pub told : List CheckedComponent
+  pub are_checked : AreChecked bundle told
+  pub modules : List ℕ
+  pub are_modules : AreModules bundle.files modules
+  pub is : compiled ≡ program bundle told modules
+
+-- what the bytes of an events file tell: its events, or what is answered where it has none; want of memory has no answer
+abbrev pub told_answer : Told → Option (Result (List Event) Answer)
+told_answer (Ok list) = Some (Ok list)
+told_answer (Err error) = option_map (λ fault. Err (events fault)) (fault_in error)
+
+-- what comes of an events file: its events, or what is answered where it is missing, too long or tells none
+pub data AreEvents (files : Files) (name : List ℕ) : Result (List Event) Answer → Type 0 where
+  no_file : find_file files name ≡ None → AreEvents files name (Err (missing name))
+  long_file : (bytes : List ℕ) → find_file files name ≡ Some bytes → EVENTS_FILE_LIMIT < length bytes → AreEvents files name (Err (events faults.TooLong))
+  whole_file : (bytes : List ℕ) (outcome : Result (List Event) Answer) → find_file files name ≡ Some bytes → length bytes ≤ EVENTS_FILE_LIMIT → told_answer (events_of bytes) ≡ Some outcome
+      → AreEvents files name outcome
+
+-- What `run ROOT EVENTS` answers. The program is looked at first, and the events file only where it has no mistake.
+pub data IsPlayed (files : Files) (root file : List ℕ) (logs : Bool) : Answer → Type 0 where
+  unfit_run : (answer : Answer) → IsUnfit files root answer → IsPlayed files root file logs answer
+  no_events : (bundle : Bundle) (answer : Answer) → Accepts files root bundle → AreEvents files file (Err answer) → IsPlayed files root file logs answer
+  plays : (bundle : Bundle) (compiled : Program) (list : List Event) → Accepts files root bundle → Compiles bundle compiled → AreEvents files file (Ok list)
+      → IsPlayed files root file logs (turns compiled logs list)
 
 -- the cause of each answer
 pub data IsAnswer (words : List (List ℕ)) (files : Files) : Answer → Type 0 where
   no_form : IsNoForm words → IsAnswer words files usage
-  runs : (root file : List ℕ) (answer : Answer) → IsRun words root file → IsPlayed files root file answer → IsAnswer words files answer
+  runs : (root file : List ℕ) (logs : Bool) (answer : Answer) → IsRun words root file logs → IsPlayed files root file logs answer → IsAnswer words files answer
   checks : (root : List ℕ) (answer : Answer) → IsCheck words root → IsChecked files root answer → IsAnswer words files answer
   prints : (root : List ℕ) (answer : Answer) → IsPrint words root → IsPrinted files root answer → IsAnswer words files answer
 
@@ -130,7 +122,7 @@ status_of (missing name) = statuses.Missing
 status_of (source file word) = statuses.Source
 status_of (source_at file line column word) = statuses.Source
 status_of (events fault) = statuses.Events
-status_of (turns form ids) = statuses.Ok
+status_of (turns program logs list) = if (run program logs list).refused then statuses.Turn else statuses.Ok
 status_of accepted = statuses.Ok
 status_of (listed text) = statuses.Ok
 
@@ -145,7 +137,7 @@ text_of (missing name) = codes "missing: " ++ (name ++ 10 ∷ [])
 text_of (source file word) = codes "source: " ++ (file ++ (codes ": " ++ (word ++ 10 ∷ [])))
 text_of (source_at file line column word) =
     codes "source: " ++ (file ++ (codes ":" ++ (decimal line ++ (codes ":" ++ (decimal column ++ (codes ": " ++ (word ++ 10 ∷ [])))))))
-text_of (events fault) = codes "events: " ++ (fault_text fault ++ 10 ∷ [])
-text_of (turns form ids) = pages form ids
+text_of (events fault) = codes "events: " ++ (events_word fault ++ 10 ∷ [])
+text_of (turns program logs list) = (run program logs list).text
 text_of accepted = codes "accepted\n"
 text_of (listed text) = text

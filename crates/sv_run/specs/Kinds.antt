@@ -1,9 +1,13 @@
 -- The words for the kinds of refusals.
-use Rattle.std.specs.Prelude.{ℕ, List, codes}
+use Rattle.std.specs.Prelude.{ℕ, List, ◌++◌, Option, Some, None, codes, decimal}
 use Rattle.sv_ast.specs.declared.refusals.Kind.{Kind}
 use Rattle.sv_ast.specs.declared.refusals.Kind.TheVariants as kind
+use Rattle.sv_events.specs.declared.refusal.EventsError.{EventsError}
+use Rattle.sv_events.specs.declared.refusal.EventsError.TheVariants as error
 use Rattle.sv_resolve.specs.declared.refusals.CheckKind.{CheckKind}
 use Rattle.sv_resolve.specs.declared.refusals.CheckKind.TheVariants as check
+use Rattle.sv_run.specs.declared.kinds.EventsFault.{EventsFault}
+use Rattle.sv_run.specs.declared.kinds.EventsFault.TheVariants as fault
 
 abbrev pub parse_word : Kind → List ℕ
 parse_word kind.NotUtf8 = codes "NotUtf8"
@@ -28,3 +32,18 @@ check_word check.UnknownSlot = codes "UnknownSlot"
 check_word check.BadBind = codes "BadBind"
 check_word check.TooManyNames = codes "TooManyNames"
 check_word check.ReactiveCycle = codes "ReactiveCycle"
+
+-- why an events file is refused; want of memory refuses none
+abbrev pub fault_in : EventsError → Option EventsFault
+fault_in error.NotJson = Some fault.NotJson
+fault_in error.BadForm = Some fault.BadForm
+fault_in error.TooMany = Some fault.TooMany
+fault_in (error.BadShape at) = Some (fault.BadShape at)
+fault_in error.NoMemory = None
+
+abbrev pub events_word : EventsFault → List ℕ
+events_word fault.TooLong = codes "TooLong"
+events_word fault.NotJson = codes "NotJson"
+events_word fault.BadForm = codes "BadForm"
+events_word fault.TooMany = codes "TooMany"
+events_word (fault.BadShape at) = codes "BadShape " ++ decimal at

@@ -1,6 +1,6 @@
+pub mod Texts
 pub mod Words
 pub mod Kinds
 pub mod Answer
 pub mod Run
 pub mod Job
-pub mod Load

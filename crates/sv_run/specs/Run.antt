@@ -29,7 +29,7 @@ abbrev pub RunAnswers : List (List ℕ) → Files → Option (List ℕ) → Opti
 RunAnswers words files old new statuses.ReadFault = new ≡ old
 RunAnswers words files old new statuses.WriteFault = BreaksOff words files old new
 RunAnswers words files old new statuses.NoMemory = (new ≡ old) ⊎ BreaksOff words files old new
-RunAnswers words files old new statuses.Turn = ⊥
+RunAnswers words files old new statuses.Turn = Answers words files old new statuses.Turn
 RunAnswers words files old new statuses.Ok = Answers words files old new statuses.Ok
 RunAnswers words files old new statuses.Usage = Answers words files old new statuses.Usage
 RunAnswers words files old new statuses.Source = Answers words files old new statuses.Source

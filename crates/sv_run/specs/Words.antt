@@ -1,5 +1,5 @@
 -- The words of the command line.
-use Rattle.std.specs.Prelude.{◌≡◌, ℕ, ◌<◌, ◌||◌, ◌==◌, List, [], ◌∷◌, ◌++◌, length, Bool, true, codes}
+use Rattle.std.specs.Prelude.{◌≡◌, ℕ, ◌<◌, ◌||◌, ◌==◌, List, [], ◌∷◌, ◌++◌, length, Bool, true, false, codes}
 use Rattle.std.specs.List.{list_all}
 use Rattle.std.specs.Char.{is_ascii_alphanumeric}
 use Rattle.sv_run.specs.declared.words.Command.{Command}
@@ -21,9 +21,14 @@ pub record IsEvents (word : List ℕ) : Type 0 where
   pub some : 0 < length word
   pub no_flag : (rest : List ℕ) → word ≡ 45 ∷ 45 ∷ rest → ⊥
 
--- the words `run ROOT EVENTS`
-pub record IsRun (words : List (List ℕ)) (root events : List ℕ) : Type 0 where
-  pub form : words ≡ codes "run" ∷ root ∷ events ∷ []
+-- the flags of a run, of which the only one asks for its logs
+abbrev pub flags : (logs : Bool) → List (List ℕ)
+flags true = codes "--log" ∷ []
+flags false = []
+
+-- the words `run ROOT EVENTS`, with `--log` behind them where logs are asked for
+pub record IsRun (words : List (List ℕ)) (root events : List ℕ) (logs : Bool) : Type 0 where
+  pub form : words ≡ codes "run" ∷ root ∷ events ∷ flags logs
   pub root_name : IsRoot root
   pub events_name : IsEvents events
 
@@ -40,9 +45,12 @@ IsCheck words root = IsOfRoot (codes "check") words root
 abbrev pub IsPrint : List (List ℕ) → List ℕ → Type 0
 IsPrint words root = IsOfRoot (codes "print") words root
 
--- the words aren't `run ROOT EVENTS`, or not `check ROOT`, or not `print ROOT`
+-- the words aren't `run ROOT EVENTS` with or without `--log`, or not `check ROOT`, or not `print ROOT`
+abbrev pub IsNoRunOf : Bool → List (List ℕ) → Type 0
+IsNoRunOf logs words = (root events : List ℕ) → IsRun words root events logs → ⊥
+
 abbrev pub IsNoRun : List (List ℕ) → Type 0
-IsNoRun words = (root events : List ℕ) → IsRun words root events → ⊥
+IsNoRun words = (root events : List ℕ) (logs : Bool) → IsRun words root events logs → ⊥
 
 abbrev pub IsNoCheck : List (List ℕ) → Type 0
 IsNoCheck words = (root : List ℕ) → IsCheck words root → ⊥
@@ -58,6 +66,6 @@ pub record IsNoForm (words : List (List ℕ)) : Type 0 where
 
 -- the words are the form that a command says
 abbrev pub IsCommand : List (List ℕ) → Command → Type 0
-IsCommand words (Run root events) = IsRun words root.now events.now
+IsCommand words (Run root events logs) = IsRun words root.now events.now logs
 IsCommand words (Check root) = IsCheck words root.now
 IsCommand words (Print root) = IsPrint words root.now

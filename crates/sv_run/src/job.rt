@@ -1,22 +1,14 @@
 // What a run is to do.
 ghost use Rattle.std.specs.Prelude.{◌≡◌, IfOk, string_bytes};
-ghost use Rattle.sv_run.specs.Answer.{status_of, text_of, fault_text};
-ghost use Rattle.sv_run.specs.Job.{refusal_of, fault_of};
+ghost use Rattle.sv_run.specs.Answer.{status_of, text_of};
+ghost use Rattle.sv_run.specs.Job.{refusal_of};
 
+use crate::kinds::EventsFault;
 use crate::status::Status;
 use std::alloc::Global;
-use std::fmt;
 use sv_base::NoMemory;
-use sv_counter::Counter;
-
-/// Why a file is refused.
-#[derive(Clone, Copy, Debug, PartialEq, Eq)]
-pub enum FileFault {
-    /// It has more bytes than its limit.
-    TooLong,
-    /// It isn't of the one form that can be run yet.
-    NotBuilt,
-}
+use sv_code::Program;
+use sv_events::Event;
 
 /// Why no turn is run.
 #[derive(Drop)]
@@ -35,7 +27,7 @@ pub enum Refusal {
         word: &'static str,
     },
     /// The events file is refused.
-    Events(FileFault),
+    Events(EventsFault),
 }
 
 /// What a run is to do.
@@ -43,8 +35,12 @@ pub enum Refusal {
 pub enum Job {
     /// Print one line.
     Refuse(Refusal),
-    /// Print the pages of the counter under clicks on these ids.
-    Play(Counter, Vec<String>),
+    /// Print the turns of the program under these events, with its logs where they are asked for.
+    Play {
+        program: Program,
+        events: Vec<Event>,
+        logs: bool,
+    },
     /// Say that the program is accepted.
     Accept,
     /// Print this listing of the program, in UTF-8.
@@ -53,30 +49,6 @@ pub enum Job {
 
 const USAGE: &str =
     "usage: svp run ROOT EVENTS [--log] [--watch] [--serials] [--tally] | check ROOT | print ROOT | gen N\n";
-
-impl FileFault {
-    /// The word for it.
-    pub fn word(self) -> &'static str
-        ensures { result.now ≡ fault_text (fault_of self) }
-    {
-        match self {
-            FileFault::TooLong => "TooLong",
-            FileFault::NotBuilt => "NotBuilt",
-        }
-    }
-}
-
-impl fmt::Display for FileFault {
-    ghost use Rattle.std.specs.Prelude.{Some};
-    ghost use Rattle.sv_run.specs.Answer.{fault_text};
-    ghost use Rattle.sv_run.specs.Job.{fault_of};
-
-    ghost output = { λ fault. Some (fault_text (fault_of fault)) };
-
-    fn fmt<W: fmt::Write>(&self, f: &mut fmt::Formatter<W>) -> fmt::Result {
-        f.write_str(self.word())
-    }
-}
 
 impl Refusal {
     /// The status with which the run ends.

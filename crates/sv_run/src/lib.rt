@@ -3,10 +3,12 @@
 #![tactic(auto)]
 
 mod check;
+mod events;
 mod job;
 mod kinds;
 mod laws;
-mod load;
+mod play;
+mod refusals;
 mod status;
 mod top;
 mod words;

@@ -1,21 +1,21 @@
 // The top call: it decides what the words and the files ask for, and prints it.
-ghost use Rattle.std.specs.Prelude.{◌≡◌, ◌≢◌, ◌≤◌, IfOk, OnOk, OnErr, IfSome};
-ghost use Rattle.sv_counter.specs.Texts.{bytes_of};
+ghost use Rattle.std.specs.Prelude.{◌≡◌, ◌≤◌, IfOk, OnOk, OnErr, IfSome, if◌then◌else◌};
 ghost use Rattle.sv_io.specs.Faults.{Rose};
 ghost use Rattle.sv_io.specs.Sink.{with_bytes, AppendsFront};
-ghost use Rattle.sv_run.specs.Answer.{IsAnswer, IsPlayed, status_of, text_of};
+ghost use Rattle.sv_run.specs.Answer.{IsAnswer, status_of, text_of};
 ghost use Rattle.sv_run.specs.Job.{answer_of, IsPlayable};
 ghost use Rattle.sv_run.specs.Run.{RunAnswers, RunCompletes};
+ghost use Rattle.sv_run.specs.Texts.{bytes_of};
 
 use crate::check::{decide_check, decide_print};
 use crate::job::{Job, Refusal};
 use crate::laws::one_answer;
-use crate::load::{Loaded, load_counter, load_events};
+use crate::play::decide_run;
 use crate::status::Status;
 use crate::words::{Command, command_of};
 use std::alloc::Global;
-use sv_counter::play;
 use sv_io::{Shelf, ShelfError, Sink, SinkError, write_all};
+use sv_play::play;
 
 // What the words and the files ask for.
 fn decide<F: Shelf>(alloc: Global, words: &[String], shelf: &mut F) -> Result<Job, ShelfError>
@@ -25,44 +25,18 @@ fn decide<F: Shelf>(alloc: Global, words: &[String], shelf: &mut F) -> Result<Jo
     ensures failed { result ≡ Err ShelfError.Failed → Rose (F.faults shelf.old) (F.faults shelf.new) }
 {
     match command_of(words) {
-        Some(Command::Run { root, events }) => decide_run(alloc, root, events, shelf),
+        Some(Command::Run { root, events, logs }) => decide_run(alloc, root, events, logs, shelf),
         Some(Command::Check { root }) => decide_check(alloc, root, shelf),
         Some(Command::Print { root }) => decide_print(alloc, root, shelf),
         None => Ok(Job::Refuse(Refusal::Usage)),
     }
 }
 
-// What `run ROOT EVENTS` asks for.
-fn decide_run<F: Shelf>(
-    alloc: Global,
-    root: &str,
-    file: &str,
-    shelf: &mut F,
-) -> Result<Job, ShelfError>
-    ensures answer { IfOk result (λ job. IfSome (F.files shelf.old) (λ files. IsPlayed files root.now file.now (answer_of job))) }
-    ensures playable { IfOk result IsPlayable }
-    ensures later { F.faults shelf.old ≤ F.faults shelf.new }
-    ensures failed { result ≡ Err ShelfError.Failed → Rose (F.faults shelf.old) (F.faults shelf.new) }
+// How a run of turns ended.
+fn turned(refused: bool) -> Status
+    ensures { result ≡ (if refused then Status.Turn else Status.Ok) }
 {
-    let counter = match load_counter(alloc, root, shelf)? {
-        Loaded::Read(counter) => counter,
-        Loaded::Missing => {
-            let name = String::from_str(alloc, root)?;
-            return Ok(Job::Refuse(Refusal::Missing(name)));
-        }
-        Loaded::Refused(fault) => {
-            let name = String::from_str(alloc, root)?;
-            return Ok(Job::Refuse(Refusal::Source(name, fault.word())));
-        }
-    };
-    match load_events(alloc, file, shelf)? {
-        Loaded::Read(ids) => Ok(Job::Play(counter, ids)),
-        Loaded::Missing => {
-            let name = String::from_str(alloc, file)?;
-            Ok(Job::Refuse(Refusal::Missing(name)))
-        }
-        Loaded::Refused(fault) => Ok(Job::Refuse(Refusal::Events(fault))),
-    }
+    if refused { Status::Turn } else { Status::Ok }
 }
 
 // Prints the answer of the job.
@@ -80,9 +54,13 @@ fn answer<K: Sink>(alloc: Global, job: &Job, out: &mut K) -> Result<Status, Sink
             write_all(out, line.as_bytes())?;
             Ok(refusal.status())
         }
-        Job::Play(counter, ids) => {
-            play(alloc, counter, ids, out)?;
-            Ok(Status::Ok)
+        Job::Play {
+            program,
+            events,
+            logs,
+        } => {
+            let refused = play(alloc, program, events, *logs, out)?;
+            Ok(turned(refused))
         }
         Job::Accept => {
             write_all(out, b"accepted\n")?;
@@ -107,13 +85,12 @@ pub fn run<F: Shelf, K: Sink>(alloc: Global, words: &[String], shelf: &mut F, ou
         (Rose (F.faults shelf.old) (F.faults shelf.new) → ⊥) → (Rose (K.faults out.old) (K.faults out.new) → ⊥)
         → RunCompletes (bytes_of words.now) files (K.written out.old) (K.written out.new) result) }
 
-    // A fault is answered only where a count rose in this call, and counts never fall. No turn of a counter is refused.
+    // A fault is answered only where a count rose in this call, and counts never fall.
     ensures read_fault { result ≡ Status.ReadFault → Rose (F.faults shelf.old) (F.faults shelf.new) }
     ensures read_nothing { result ≡ Status.ReadFault → K.written out.new ≡ K.written out.old }
     ensures write_fault { result ≡ Status.WriteFault → Rose (K.faults out.old) (K.faults out.new) }
     ensures shelf_later { F.faults shelf.old ≤ F.faults shelf.new }
     ensures sink_later { K.faults out.old ≤ K.faults out.new }
-    ensures no_turn { result ≢ Status.Turn }
 {
     one_answer();
     let job = match decide(alloc, words, shelf) {

@@ -1,8 +1,8 @@
 // The words of the command line. `docs/formats.md` lists their forms.
-ghost use Rattle.std.specs.Prelude.{◌≡◌, ℕ, List, IsTrue, ◌↔◌, IfSome, IfNone};
+ghost use Rattle.std.specs.Prelude.{◌≡◌, true, false, IsTrue, IfSome, IfNone};
 ghost use Rattle.std.specs.List.{list_all};
-ghost use Rattle.sv_run.specs.Words.{is_name_byte, IsRoot, IsEvents, IsRun, IsCheck, IsPrint, IsCommand, IsNoRun, IsNoCheck, IsNoPrint, IsNoForm};
-ghost use Rattle.sv_counter.specs.Texts.{bytes_of};
+ghost use Rattle.sv_run.specs.Texts.{bytes_of};
+ghost use Rattle.sv_run.specs.Words.{is_name_byte, IsRoot, IsEvents, IsRun, IsCheck, IsPrint, IsCommand, IsNoRunOf, IsNoRun, IsNoCheck, IsNoPrint, IsNoForm};
 
 fn are_name_bytes(bytes: &[u8]) -> bool
     ensures { result ≡ list_all is_name_byte bytes.now }
@@ -36,12 +36,20 @@ fn is_events(word: &str) -> bool
 /// What the words ask for.
 #[derive(Clone, Copy)]
 pub enum Command<'a> {
-    /// `run ROOT EVENTS`.
-    Run { root: &'a str, events: &'a str },
+    /// `run ROOT EVENTS`, where logs are asked for with `--log` behind it.
+    Run {
+        root: &'a str,
+        events: &'a str,
+        logs: bool,
+    },
     /// `check ROOT`.
-    Check { root: &'a str },
+    Check {
+        root: &'a str,
+    },
     /// `print ROOT`.
-    Print { root: &'a str },
+    Print {
+        root: &'a str,
+    },
 }
 
 /// The command of the words, or `None` exactly where they are no form.
@@ -49,8 +57,8 @@ pub fn command_of(words: &[String]) -> Option<Command<'_>>
     ensures some { IfSome result (IsCommand (bytes_of words.now)) }
     ensures none { IfNone result (IsNoForm (bytes_of words.now)) }
 {
-    if let Some((root, events)) = run_words(words) {
-        return Some(Command::Run { root, events });
+    if let Some(command) = run_words(words) {
+        return Some(command);
     }
     if let Some(root) = check_words(words) {
         return Some(Command::Check { root });
@@ -61,16 +69,53 @@ pub fn command_of(words: &[String]) -> Option<Command<'_>>
     }
 }
 
-// The names of the root file and of the events file, where the words are `run ROOT EVENTS`.
-fn run_words(words: &[String]) -> Option<(&str, &str)>
-    ensures some { IfSome result (λ names. IsRun (bytes_of words.now) names.0.now names.1.now) }
+// The command of the words, where they are `run ROOT EVENTS` with or without `--log`.
+fn run_words(words: &[String]) -> Option<Command<'_>>
+    ensures some { IfSome result (IsCommand (bytes_of words.now)) }
     ensures none { IfNone result (IsNoRun (bytes_of words.now)) }
+{
+    if let Some((root, events)) = plain_words(words) {
+        return Some(Command::Run {
+            root,
+            events,
+            logs: false,
+        });
+    }
+    match logged_words(words) {
+        Some((root, events)) => Some(Command::Run {
+            root,
+            events,
+            logs: true,
+        }),
+        None => None,
+    }
+}
+
+// The names of the root file and of the events file, where the words are `run ROOT EVENTS`.
+fn plain_words(words: &[String]) -> Option<(&str, &str)>
+    ensures some { IfSome result (λ names. IsRun (bytes_of words.now) names.0.now names.1.now false) }
+    ensures none { IfNone result (IsNoRunOf false (bytes_of words.now)) }
 {
     match words {
         [command, root, events]
             if command.as_str() == "run" && is_root(root) && is_events(events) => {
             Some((root.as_str(), events.as_str()))
         }
+        _ => None,
+    }
+}
+
+// The same where the words are `run ROOT EVENTS --log`.
+fn logged_words(words: &[String]) -> Option<(&str, &str)>
+    ensures some { IfSome result (λ names. IsRun (bytes_of words.now) names.0.now names.1.now true) }
+    ensures none { IfNone result (IsNoRunOf true (bytes_of words.now)) }
+{
+    match words {
+        [command, root, events, flag]
+            if command.as_str() == "run"
+                && is_root(root)
+                && is_events(events)
+                && flag.as_str() == "--log" => { Some((root.as_str(), events.as_str())) }
         _ => None,
     }
 }

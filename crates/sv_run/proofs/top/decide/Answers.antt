@@ -1,13 +1,13 @@
 use Rattle.std.proofs.Common.{subst}
 use Rattle.sv_run.specs.Job.{answer_of}
 use Rattle.sv_run.specs.Words.{IsCommand}
-use Rattle.sv_counter.specs.Texts.{bytes_of}
+use Rattle.sv_run.specs.Texts.{bytes_of}
 use Rattle.sv_run.proofs.Deciding.{ok_weaker, calls-usage, calls-run, calls-check, calls-print}
 use Rattle.sv_run.proofs.top.decide.Goals as goal
 
 pub returns-in-Some-Run-clause-answer : goal.returns-in-Some-Run-clause-answer
 returns-in-Some-Run-clause-answer g c = ok_weaker c.decide_run.result
-    (λ job. calls-run (g.F.Shelf.files c.args.shelf.now) (bytes_of c.args.words.now) c.in-Some-Run.root.now c.in-Some-Run.events.now (answer_of job) (subst (IsCommand (bytes_of c.args.words.now)) c.in-Some-Run.field-0-is c.in-Some-Run.ensures.some))
+    (λ job. calls-run (g.F.Shelf.files c.args.shelf.now) (bytes_of c.args.words.now) c.in-Some-Run.root.now c.in-Some-Run.events.now c.in-Some-Run.logs (answer_of job) (subst (IsCommand (bytes_of c.args.words.now)) c.in-Some-Run.field-0-is c.in-Some-Run.ensures.some))
     c.decide_run.ensures.answer
 
 pub returns-in-Some-Check-clause-answer : goal.returns-in-Some-Check-clause-answer

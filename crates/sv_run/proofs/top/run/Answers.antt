@@ -1,6 +1,6 @@
 use Rattle.std.proofs.Common.{inr}
 use Rattle.sv_run.specs.Job.{answer_of}
-use Rattle.sv_counter.specs.Texts.{bytes_of}
+use Rattle.sv_run.specs.Texts.{bytes_of}
 use Rattle.sv_run.proofs.Deciding.{some_weaker}
 use Rattle.sv_run.proofs.Running.{run-answered, run-given, run-broken}
 use Rattle.sv_run.proofs.top.run.Goals as goal

@@ -1,13 +1,6 @@
-use Rattle.std.proofs.Common.{◌≡◌, rules, codes, string_bytes}
-use Rattle.sv_run.proofs.Lists.{three_words}
+use Rattle.sv_run.specs.Texts.{bytes_of}
+use Rattle.sv_run.proofs.Deciding.{no_run}
 use Rattle.sv_run.proofs.words.run_words.Goals as goal
 
-pub returns-in-len3-clause-some : goal.returns-in-len3-clause-some
-returns-in-len3-clause-some c =
-    let three = three_words c.args.words.now _ _ _ c.in-len3.len_at_least c.in-len3.len_below c.command-item.is c.root-item.is c.events-item.is in
-    let command : string_bytes c.command-item.result ≡ codes "run" = search rules in
-    record {
-      form = rw (three, command, c.as_str-in-len3.ensures.value, c.as_str-in-len3-2.ensures.value) (search rules);
-      root_name = search rules;
-      events_name = search rules;
-    }
+pub returns-in-None-clause-none : goal.returns-in-None-clause-none
+returns-in-None-clause-none c = no_run (bytes_of c.args.words.now) c.in_default.ensures.none c.in-None.ensures.none

@@ -1,9 +1,0 @@
-pub mod Bounds
-pub mod Pieces
-pub mod Members
-pub mod Spelling
-pub mod Staging
-pub mod Playing
-pub mod Printed
-pub mod Progress
-pub mod Reading
