@@ -1,0 +1,61 @@
+-- Updates, and rounds until nobody waits.
+use Rattle.std.specs.Prelude.{ℕ, zero, suc, false, List, [], ◌∷◌}
+use Rattle.sv_code.specs.declared.program.Program.{Program}
+use Rattle.sv_flush.specs.Callbacks.{all_mounted, after}
+use Rattle.sv_flush.specs.Creation.{readied, after_waits, effects}
+use Rattle.sv_flush.specs.Outcome.{Outcome, Done, Halted, Task, and_then, in_turn, each, changed, scripted, work}
+use Rattle.sv_flush.specs.Rounds.{Binding, Waiting, mounting, after_update}
+use Rattle.sv_flush.specs.Showing.{shown}
+use Rattle.sv_flush.specs.declared.page.Page.{Page}
+use Rattle.sv_parts.specs.declared.refusal.Refusal.TheVariants.{Budget}
+use Rattle.sv_states.specs.Assignment.{bound_up}
+use Rattle.sv_states.specs.States.{States}
+use Rattle.sv_states.specs.declared.states.TheConstants.{DEPTH_LIMIT}
+
+-- an instance is readied and shown, which takes a unit of work; then its afterUpdate callbacks wait
+unfoldable pub updated : Program → ℕ → Task
+updated p n = in_turn (work ∷ readied p n false ∷ shown p (effects DEPTH_LIMIT p n) n ∷ changed (after_waits n) ∷ [])
+
+abbrev pub at_front : List ℕ → Outcome (Unit {0}) → (ℕ → Outcome (Unit {0})) → Outcome (Unit {0})
+at_front [] nobody somebody = nobody
+at_front (n ∷ queue) nobody somebody = somebody n
+
+-- something is done with whoever has waited longest, until nobody waits; it takes a unit of work each time, so that it is done as often as there
+-- are units at most
+abbrev pub while_queued : ℕ → (ℕ → Task) → Task
+while_queued zero task m = at_front m.world.states.queue (Done tt m) (λ n. Halted Budget m)
+while_queued (suc times) task m = at_front m.world.states.queue (Done tt m) (λ n. and_then (task n m) (λ _. while_queued times task))
+
+abbrev pub until_settled : (ℕ → Task) → Task
+until_settled task m = while_queued m.counters.work task m
+
+-- ---- a round
+
+-- the binding callbacks, the last first
+abbrev pub bound_last_first : List Binding → States → States
+bound_last_first [] s = s
+bound_last_first (b ∷ bindings) s = bound_up (bound_last_first bindings s) b.child b.bound
+
+abbrev pub all_bound : Page → Page
+all_bound m = record m { world = record m.world { states = bound_last_first m.rounds.bindings m.world.states }; rounds = record m.rounds { bindings = [] } }
+
+abbrev pub rendered_one : Program → Waiting → Task
+rendered_one p (mounting n) = scripted (all_mounted p n)
+rendered_one p (after_update n at) = after p n at
+
+-- the render queue in order
+abbrev pub rendered : Program → Task
+rendered p m = each (rendered_one p) m.rounds.render (record m { rounds = record m.rounds { render = [] } })
+
+-- those who wait are updated in order, those who join them meanwhile among them; then come the binding callbacks, and then the render queue
+unfoldable pub round : Program → Task
+round p = in_turn (until_settled (updated p) ∷ changed all_bound ∷ rendered p ∷ [])
+
+-- ---- a flush
+
+abbrev pub flush_ended : Page → Page
+flush_ended m = record m { rounds = record m.rounds { ran = [] } }
+
+-- rounds until nobody waits, one at least
+unfoldable pub flushed : Program → Task
+flushed p = in_turn (round p ∷ until_settled (λ _. round p) ∷ changed flush_ended ∷ [])

@@ -1,0 +1,14 @@
+pub mod Rounds
+pub mod Waits
+pub mod Same
+pub mod Page
+pub mod Outcome
+pub mod Meets
+pub mod Answers
+pub mod Callbacks
+pub mod Destruction
+pub mod Setting
+pub mod Showing
+pub mod Creation
+pub mod Sites
+pub mod Flush

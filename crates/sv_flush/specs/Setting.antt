@@ -1,0 +1,50 @@
+-- What is handed down to an instance: props, and the view of its owner.
+use Rattle.std.specs.Prelude.{ℕ, Bool, false, ◌&&◌, List, [], ◌∷◌, Option, Some, None, if◌then◌else◌}
+use Rattle.sv_code.specs.declared.program.Component.{Component}
+use Rattle.sv_code.specs.declared.program.Program.{Program}
+use Rattle.sv_flush.specs.Same.{same}
+use Rattle.sv_meaning.specs.Components.{component_of}
+use Rattle.sv_parts.specs.declared.state.Given.{Given}
+use Rattle.sv_states.specs.Assignment.{assigned}
+use Rattle.sv_states.specs.Change.{viewed}
+use Rattle.sv_states.specs.States.{live, value_in}
+use Rattle.sv_value.specs.Value.{Val}
+use Rattle.sv_view.specs.Level.{View}
+use Rattle.sv_world.specs.declared.world.World.{World}
+
+abbrev pub same_there : Option Val → Val → Bool
+same_there None v = false
+same_there (Some u) v = same u v
+
+-- a bound prop that has the value already isn't set
+abbrev pub stays : World → ℕ → Given → Bool
+stays w n g = g.bound && same_there (value_in (live w.states n) g.cell) g.value
+
+abbrev pub prop_set : ℕ → Given → World → World
+prop_set n g w = if stays w n g then w else record w { states = assigned w.states n g.cell g.value }
+
+abbrev pub props_set : ℕ → List Given → World → World
+props_set n [] w = w
+props_set n (g ∷ props) w = props_set n props (prop_set n g w)
+
+abbrev pub setting : Option ℕ → World → World
+setting n w = record w { states = record w.states { setting = n } }
+
+-- the props are set in order; meanwhile the bound ones hand nothing up
+abbrev pub set : ℕ → List Given → World → World
+set n props w = setting None (props_set n props (setting (Some n) w))
+
+abbrev pub lent_to : Option Component → ℕ → View → World → World
+lent_to None n view w = w
+lent_to (Some c) n view w = lent_at c.view where
+  lent_at : Option ℕ → World
+  lent_at None = w
+  lent_at (Some cell) = record w { states = viewed w.states n cell view }
+
+-- an instance gets its owner's view, where its component shows slots
+abbrev pub lent : Program → ℕ → View → World → World
+lent p n view w = lent_to (component_of p w n) n view w
+
+abbrev pub lent_if : Program → ℕ → Option View → World → World
+lent_if p n None w = w
+lent_if p n (Some view) w = lent p n view w
