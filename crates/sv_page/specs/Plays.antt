@@ -1,0 +1,40 @@
+-- What sessions answer and are.
+use Rattle.std.specs.Prelude.{◌≡◌, Bool, Result, Ok, Err}
+use Rattle.sv_code.specs.declared.program.Program.{Program}
+use Rattle.sv_events.specs.declared.event.Event.{Event}
+use Rattle.sv_flush.specs.Outcome.{Outcome, Done, Halted}
+use Rattle.sv_page.specs.Turns.{next_turn, nodes_of}
+use Rattle.sv_page.specs.declared.session.Session.{Session}
+use Rattle.sv_page.specs.declared.stage.Stage.{Stage}
+use Rattle.sv_page.specs.declared.stage.Stage.TheVariants.{New, Running, Stopped}
+use Rattle.sv_page.specs.declared.stage.TurnError.{TurnError}
+use Rattle.sv_page.specs.declared.stage.TurnError.TheVariants as error
+use Rattle.sv_page.specs.declared.stage.Turned.{Turned}
+
+abbrev pub program_of : Session → Program
+program_of s = s.machine.program.now
+
+-- the nodes of a session are those of its page
+pub record IsShown (s : Session) : Type 0 where
+  pub shown : s.nodes ≡ nodes_of (program_of s) s.page
+  pub running : s.stage ≡ Running
+
+-- the page is what a turn made of it, and it is shown; after a refusal it is as it was left, and the session is stopped
+abbrev pub PlaysBody : Result Turned TurnError → Session → Outcome Bool → Type 0
+PlaysBody (Ok turned) s o = (o ≡ Done turned.target s.page) × IsShown s
+PlaysBody (Err (error.Refused r)) s o = (o ≡ Halted r s.page) × (s.stage ≡ Stopped)
+PlaysBody (Err error.Stopped) s o = ⊥
+PlaysBody (Err error.NoMemory) s o = s.stage ≡ Stopped
+
+pub record Plays (result : Result Turned TurnError) (old new : Session) (o : Outcome Bool) : Type 0 where
+  pub plays : PlaysBody result new o
+  pub same : new.machine ≡ old.machine
+
+-- a turn is played where the page is running
+abbrev pub TurnsAt : Stage → Result Turned TurnError → Session → Session → Event → Type 0
+TurnsAt Running result old new event = Plays result old new (next_turn (program_of old) event old.nodes old.page)
+TurnsAt New result old new event = (result ≡ Err error.Stopped) × (new ≡ old)
+TurnsAt Stopped result old new event = (result ≡ Err error.Stopped) × (new ≡ old)
+
+abbrev pub Turns : Result Turned TurnError → Session → Session → Event → Type 0
+Turns result old new event = TurnsAt old.stage result old new event

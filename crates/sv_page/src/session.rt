@@ -1,0 +1,106 @@
+// Sessions.
+ghost use Rattle.std.specs.Prelude.{◌≡◌, IfOk, OnOk, OnErr, false};
+ghost use Rattle.sv_document.specs.Printed.{html};
+ghost use Rattle.sv_flush.specs.Page.{blank};
+ghost use Rattle.sv_page.specs.Plays.{Plays, Turns, IsShown, program_of};
+ghost use Rattle.sv_page.specs.Turns as spec;
+
+use crate::stage::{Stage, TurnError, Turned};
+use crate::turns::{first_turn, next_turn};
+use std::alloc::Global;
+use sv_base::{NoMemory, Text};
+use sv_code::Program;
+use sv_document::{Nodes, print};
+use sv_events::Event;
+use sv_flush::{Machine, Page};
+use sv_fresh::render;
+
+/// A program on a page: what scripts left, what is shown, and how far the page is.
+#[derive(Drop)]
+pub struct Session<'a> {
+    machine: Machine<'a>,
+    page: Page,
+    nodes: Nodes,
+    stage: Stage,
+}
+
+impl<'a> Session<'a> {
+    /// A session whose page is still empty.
+    pub fn begin(alloc: Global, program: &'a Program) -> Result<Session<'a>, NoMemory>
+        ensures program { IfOk result (λ session. program_of session ≡ program.now) }
+        ensures page { IfOk result (λ session. session.page ≡ blank) }
+        ensures stage { IfOk result (λ session. session.stage ≡ Stage.New) }
+    {
+        Ok(Session {
+            machine: Machine { alloc, program },
+            page: Page::new(alloc)?,
+            nodes: Nodes::new(alloc),
+            stage: Stage::New,
+        })
+    }
+
+    /// Mounts the page: module files run, the root is made with all below it, and a flush follows. After a refusal the session is stopped.
+    pub fn mount(&mut self) -> Result<Turned, TurnError>
+        ensures { Plays result self.old self.new (spec.first_turn (program_of self.old) self.old.page) }
+    {
+        self.stage = Stage::Stopped;
+        let target = first_turn(&self.machine, &mut self.page)?;
+        Ok(self.show(target)?)
+    }
+
+    /// An event comes to the page: what it does, and a flush where there was an element for it. After a refusal the session is stopped;
+    /// `Stopped` comes exactly where the page isn't running, and nothing is done.
+    pub fn turn(&mut self, event: &Event) -> Result<Turned, TurnError>
+        ensures { Turns result self.old self.new event.now }
+    {
+        if self.stage != Stage::Running {
+            return Err(TurnError::Stopped);
+        }
+        self.stage = Stage::Stopped;
+        let target = next_turn(&self.machine, &mut self.page, self.nodes.as_slice(), event)?;
+        Ok(self.show(target)?)
+    }
+
+    // What the page shows now, for the next event.
+    fn show(&mut self, target: bool) -> Result<Turned, NoMemory>
+        ensures shown { OnOk result (IsShown self.new) }
+        ensures target { IfOk result (λ turned. turned.target ≡ target) }
+        ensures stage { OnErr result (self.new.stage ≡ self.old.stage) }
+        ensures page { self.new.page ≡ self.old.page }
+        ensures machine { self.new.machine ≡ self.old.machine }
+    {
+        let machine = &self.machine;
+        let page = &self.page;
+        self.nodes = render(machine.alloc, machine.program, &page.world, &page.showing)?;
+        self.stage = Stage::Running;
+        Ok(Turned { target })
+    }
+
+    /// The program.
+    pub fn program(&self) -> &Program
+        ensures { result.now ≡ program_of self.now }
+    {
+        self.machine.program
+    }
+
+    /// How far the page is.
+    pub fn stage(&self) -> Stage
+        ensures { result ≡ self.now.stage }
+    {
+        self.stage
+    }
+
+    /// What scripts logged in the last turn that was played, also in one that was refused.
+    pub fn log(&self) -> &[Text]
+        ensures { result.now ≡ self.now.page.world.turn.log }
+    {
+        self.page.world.turn.log()
+    }
+
+    /// The text of the page as it was shown last.
+    pub fn html(&self) -> Result<Vec<u8>, NoMemory>
+        ensures { IfOk result (λ text. text.items ≡ html false self.now.nodes) }
+    {
+        print(self.machine.alloc, self.nodes.as_slice(), false)
+    }
+}
