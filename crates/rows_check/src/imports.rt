@@ -7,7 +7,7 @@ use sv_ast::Bundle;
 use sv_base::Span;
 use sv_imports::{import_cycles, unknown_imports};
 use sv_list::Items;
-use sv_stains::pure_functions;
+use sv_effects::pure_functions;
 
 /// The imports that are part of a circle, file by file.
 pub fn circles(alloc: Global, row: &str) -> Result<String, Unanswered> {

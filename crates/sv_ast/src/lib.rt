@@ -20,5 +20,5 @@ pub use operators::{AssignOp, Op};
 pub use refusals::{Kind, ParseError, Refused};
 pub use script_tree::{
     Arm, Arms, Body, Decl, Decls, Entry, Expr, ExprKind, Exprs, Field, Fields, Import, Items, Link,
-    Links, Spec, Specs, Stmt, StmtKind, Stmts,
+    Links, ImportName, ImportNames, Stmt, StmtKind, Stmts,
 };

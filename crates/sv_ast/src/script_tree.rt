@@ -29,7 +29,7 @@ pub type Decls = sv_list::Items<Decl>;
 pub type Arms = sv_list::Items<Arm>;
 
 /// The names between the braces of an import.
-pub type Specs = sv_list::Items<Spec>;
+pub type ImportNames = sv_list::Items<ImportName>;
 
 /// An expression. The span leaves out round brackets that stand about the whole of it.
 #[cycle(script)]
@@ -170,12 +170,12 @@ pub struct Arm {
 pub struct Import {
     pub from: Text,
     pub whole: Option<Named>,
-    pub specs: Specs,
+    pub specs: ImportNames,
 }
 
 /// `given as local`. Without `as` both are the one name.
 #[derive(Clone, Copy)]
-pub struct Spec {
+pub struct ImportName {
     pub given: Named,
     pub local: Named,
 }

@@ -13,9 +13,9 @@ use Rattle.sv_names.specs.Distinct.{same_ref, has, with_name, with_names}
 use Rattle.sv_resolve.specs.declared.cells.Scopes.{Scopes}
 use Rattle.sv_resolve.specs.Cells.{is_variable, is_store, variables, stores, uses_view, scopes}
 use Rattle.sv_resolve.specs.Places.{declaration_place}
-use Rattle.sv_scopes.specs.declared.words.Scope.{Scope}
-use Rattle.sv_scopes.specs.declared.words.TheConstants.{VIEW}
-use Rattle.sv_scopes.specs.declared.words.Use.{Use}
+use Rattle.sv_scopes.specs.declared.scope.Scope.{Scope}
+use Rattle.sv_scopes.specs.declared.scope.TheConstants.{VIEW}
+use Rattle.sv_scopes.specs.declared.scope.Use.{Use}
 use Rattle.sv_scopes.specs.Files.{component_scopes}
 use Rattle.sv_check.specs.Cells.{store_places, first_view, cell_places, too_many}
 use Rattle.sv_check.specs.Checked.{told_scopes}

@@ -16,10 +16,10 @@ use Rattle.sv_imports.specs.Cycles.{TellsLeads, AreCycles, leads_back, closes, c
 use Rattle.sv_imports.specs.Imports.{StmtLayer, statements_of, name_in, file_of_name, target_layer, target}
 use Rattle.sv_resolve.specs.declared.refusals.CheckRefusal.{CheckRefusal}
 use Rattle.sv_resolve.specs.Earliest.{IsEarliest}
-use Rattle.sv_stains.specs.Known.{Points, known, names_without}
-use Rattle.sv_stains.specs.Stains.{ArePure}
-use Rattle.sv_visits.specs.Cycle.{IsFirstCycle}
-use Rattle.sv_visits.specs.Links.{is_in}
+use Rattle.sv_effects.specs.Known.{Points, known, names_without}
+use Rattle.sv_effects.specs.Stains.{ArePure}
+use Rattle.sv_graph.specs.Cycle.{IsFirstCycle}
+use Rattle.sv_graph.specs.Links.{is_in}
 use Rattle.sv_order.specs.ReactiveOrder.{Before}
 use Rattle.sv_check.specs.Waiting.{AreWaiting, none, some, first_place, place_at, reads}
 

@@ -9,7 +9,7 @@ use Rattle.sv_base.specs.declared.span.Span.{Span}
 use Rattle.sv_names.specs.Distinct.{has}
 use Rattle.sv_order.specs.declared.reads.Reads.{Reads}
 use Rattle.sv_order.specs.ReactiveOrder.{Before}
-use Rattle.sv_visits.specs.Cycle.{Leads, IsCycle, IsFirstCycle}
+use Rattle.sv_graph.specs.Cycle.{Leads, IsCycle, IsFirstCycle}
 use Rattle.sv_check.specs.Waiting.{reactives, reads, first_place, AreWaiting, none, some}
 
 has_within : (lists : List (List Ref)) (n : ℕ) (name : Ref) → has name (slice_index_or lists n []) ≡ true → n < length lists

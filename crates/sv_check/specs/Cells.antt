@@ -8,9 +8,9 @@ use Rattle.sv_base.specs.declared.span.Span.{Span}
 use Rattle.sv_names.specs.Distinct.{same_ref, has, with_name}
 use Rattle.sv_resolve.specs.Cells.{is_variable, is_store}
 use Rattle.sv_resolve.specs.Places.{declaration_place, name_place}
-use Rattle.sv_scopes.specs.declared.words.Scope.{Scope}
-use Rattle.sv_scopes.specs.declared.words.TheConstants.{VIEW}
-use Rattle.sv_scopes.specs.declared.words.Use.{Use}
+use Rattle.sv_scopes.specs.declared.scope.Scope.{Scope}
+use Rattle.sv_scopes.specs.declared.scope.TheConstants.{VIEW}
+use Rattle.sv_scopes.specs.declared.scope.Use.{Use}
 
 -- a store name that isn't known
 abbrev pub is_new_store : List Ref → Use → Bool

@@ -17,7 +17,7 @@ use Rattle.sv_resolve.specs.declared.refusals.CheckRefusal.{CheckRefusal}
 use Rattle.sv_resolve.specs.Cells.{scopes}
 use Rattle.sv_resolve.specs.Earliest.{IsEarliest}
 use Rattle.sv_scopes.specs.Files.{component_scopes}
-use Rattle.sv_stains.specs.Stains.{ArePure}
+use Rattle.sv_effects.specs.Stains.{ArePure}
 use Rattle.sv_check.specs.declared.checked.CheckedComponent.{CheckedComponent}
 use Rattle.sv_check.specs.Mistakes.{AreMistakes}
 use Rattle.sv_check.specs.Waiting.{reads}

@@ -2,7 +2,7 @@
 use Rattle.std.specs.Prelude.{Bool, true, false}
 use Rattle.sv_ast.specs.declared.files.FileTree.{FileTree}
 use Rattle.sv_ast.specs.declared.files.FileTree.TheVariants as tree
-use Rattle.sv_scopes.specs.declared.words.FileScopes.{FileScopes}
+use Rattle.sv_scopes.specs.declared.scope.FileScopes.{FileScopes}
 use Rattle.sv_scopes.specs.Files.{component_scopes, module_scopes}
 
 abbrev pub is_component : FileTree → Bool

@@ -4,7 +4,7 @@ use Rattle.sv_ast.specs.declared.files.Bundle.{Bundle}
 use Rattle.sv_imports.specs.Cycles.{AreCycles}
 use Rattle.sv_imports.specs.Unknown.{unknown_imports}
 use Rattle.sv_slots.specs.Sheets.{sheets}
-use Rattle.sv_stains.specs.Stains.{ArePure}
+use Rattle.sv_effects.specs.Stains.{ArePure}
 use Rattle.sv_check.specs.declared.found.Found.{Found}
 
 -- each part is as its definition says

@@ -8,7 +8,7 @@ use Rattle.sv_ast.specs.declared.script_tree.Decl.{Decl, out-Decl}
 use Rattle.sv_ast.specs.declared.script_tree.Expr.{Expr}
 use Rattle.sv_ast.specs.declared.script_tree.ExprKind.{ExprKind-F, out-ExprKind}
 use Rattle.sv_ast.specs.declared.script_tree.Import.{Import}
-use Rattle.sv_ast.specs.declared.script_tree.Spec.{Spec}
+use Rattle.sv_ast.specs.declared.script_tree.ImportName.{ImportName}
 use Rattle.sv_ast.specs.declared.script_tree.Stmt.{Stmt}
 use Rattle.sv_ast.specs.declared.script_tree.StmtKind.{StmtKind-F, out-StmtKind}
 use Rattle.sv_base.specs.BuiltIn.{life_functions}
@@ -18,14 +18,14 @@ use Rattle.sv_base.specs.declared.span.Span.{Span}
 use Rattle.sv_names.specs.Distinct.{has, firsts}
 use Rattle.sv_names.specs.Uses.{named}
 use Rattle.sv_resolve.specs.Places.{name_place}
-use Rattle.sv_scopes.specs.declared.words.Scope.{Scope}
-use Rattle.sv_scopes.specs.declared.words.Use.{Use}
+use Rattle.sv_scopes.specs.declared.scope.Scope.{Scope}
+use Rattle.sv_scopes.specs.declared.scope.Use.{Use}
 use Rattle.sv_scopes.specs.Script.{Layer, StmtLayer}
 
 -- ---- the names of such functions
 
 -- the local names of those of some imported names that are such functions
-abbrev pub local_names : Table → List Spec → List Ref
+abbrev pub local_names : Table → List ImportName → List Ref
 local_names table specs = map (λ spec. named spec.local) (filter (λ spec. is_one_of table life_functions spec.given.name) specs)
 
 abbrev pub life_specs : Table → Import → List Ref

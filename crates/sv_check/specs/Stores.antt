@@ -8,11 +8,11 @@ use Rattle.sv_base.specs.declared.span.Span.{Span}
 use Rattle.sv_names.specs.Distinct.{has, firsts}
 use Rattle.sv_resolve.specs.Cells.{is_store}
 use Rattle.sv_resolve.specs.Places.{name_place}
-use Rattle.sv_scopes.specs.declared.words.Binding.{Binding}
-use Rattle.sv_scopes.specs.declared.words.Binding.TheVariants.{Const, Import}
-use Rattle.sv_scopes.specs.declared.words.Declared.{Declared}
-use Rattle.sv_scopes.specs.declared.words.Scope.{Scope}
-use Rattle.sv_scopes.specs.declared.words.Use.{Use}
+use Rattle.sv_scopes.specs.declared.scope.Binding.{Binding}
+use Rattle.sv_scopes.specs.declared.scope.Binding.TheVariants.{Const, Import}
+use Rattle.sv_scopes.specs.declared.scope.Declared.{Declared}
+use Rattle.sv_scopes.specs.declared.scope.Scope.{Scope}
+use Rattle.sv_scopes.specs.declared.scope.Use.{Use}
 use Rattle.sv_scopes.specs.Parts.{names_of}
 
 abbrev pub may_hold : Binding → Bool

@@ -7,7 +7,7 @@ use Rattle.sv_base.specs.declared.span.Span.{Span}
 use Rattle.sv_names.specs.Uses.{read_names, assigned_names}
 use Rattle.sv_order.specs.declared.reads.Reads.{Reads}
 use Rattle.sv_order.specs.ReactiveOrder.{Before}
-use Rattle.sv_visits.specs.Cycle.{IsCycle, IsFirstCycle}
+use Rattle.sv_graph.specs.Cycle.{IsCycle, IsFirstCycle}
 use Rattle.sv_scopes.specs.Script.{StmtLayer}
 
 abbrev pub is_reactive_layer : StmtLayer → Bool

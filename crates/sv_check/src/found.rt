@@ -8,7 +8,7 @@ use sv_base::{NoMemory, Span};
 use sv_imports::{import_cycles, unknown_imports};
 use sv_list::Items;
 use sv_slots::{Sheet, sheets_of};
-use sv_stains::pure_functions;
+use sv_effects::pure_functions;
 
 /// What is found before the files are looked at one by one: for each the imports that are part of a circle, the names that it imports and
 /// that aren't given, the names of pure functions, and what is known of its markup.

@@ -5,7 +5,7 @@ ghost use Rattle.sv_check.specs.Life as spec;
 
 use crate::called::{Places, free_places};
 use std::alloc::Global;
-use sv_ast::{Import, Ref, Spec, Stmt, StmtKind};
+use sv_ast::{Import, Ref, ImportName, Stmt, StmtKind};
 use sv_base::built_in::LIFE_MODULE;
 use sv_base::{Names, NoMemory, Span};
 use sv_imports::is_life_function;
@@ -83,7 +83,7 @@ fn add_import(life: &mut Distinct, names: &Names, import: &Import) -> Result<(),
     Ok(())
 }
 
-fn add_specs(life: &mut Distinct, names: &Names, specs: &[Spec]) -> Result<(), NoMemory>
+fn add_specs(life: &mut Distinct, names: &Names, specs: &[ImportName]) -> Result<(), NoMemory>
     ensures { OnOk result (life.new ≡ with_names life.old (spec.local_names names.now specs.now)) }
 {
     for given in specs {

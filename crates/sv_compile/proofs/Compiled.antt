@@ -26,20 +26,20 @@ use Rattle.sv_code.specs.declared.program.ProgramFile.{ProgramFile}
 use Rattle.sv_code.specs.declared.program.StoreCell.{StoreCell}
 use Rattle.sv_code.specs.Compiled.{size_of, sizes_of, IsComponent, IsCode, IsFile, AreInFile, IsModule, IsCompiled}
 use Rattle.sv_code.specs.Numbers.{Number, Size, OfModule, Counts, size_at, cells_in, constants_in, is_component, functions_alone, IsThere, of_known, of_stmts as stmt_numbers, of_frags, of_function, of_tag, of_handler}
-use Rattle.sv_frags.specs.declared.around.Tables.{Tables}
-use Rattle.sv_frags.specs.Frags.{fragments}
-use Rattle.sv_frags.proofs.Looking.{numbers_within}
-use Rattle.sv_frags.proofs.Naming.{fragments_keep}
-use Rattle.sv_frags.proofs.Sound.{counted, IsSound, Fits, lowered_keeps}
+use Rattle.sv_fragments.specs.declared.around.Tables.{Tables}
+use Rattle.sv_fragments.specs.Frags.{fragments}
+use Rattle.sv_fragments.proofs.Looking.{numbers_within}
+use Rattle.sv_fragments.proofs.Naming.{fragments_keep}
+use Rattle.sv_fragments.proofs.Sound.{counted, IsSound, Fits, lowered_keeps}
 use Rattle.sv_lines.specs.Lines.{ascends, LinesAscend}
 use Rattle.sv_lower.specs.Lower.{of_stmts}
 use Rattle.sv_lower.specs.Tops.{known_in}
 use Rattle.sv_lower.proofs.Keeping.{AtLeast, AreSomewhere, no_more, once_more, still_there}
 use Rattle.sv_lower.proofs.Lowering.{KnownThere, TopsThere, of_stmts_keeps}
-use Rattle.sv_scopes.specs.declared.words.TheConstants.{VIEW}
+use Rattle.sv_scopes.specs.declared.scope.TheConstants.{VIEW}
 use Rattle.sv_slots.specs.Sheets.{all_props}
-use Rattle.sv_visits.specs.declared.outcome.Visited.{Visited}
-use Rattle.sv_visits.specs.declared.outcome.Visited.TheVariants as visited
+use Rattle.sv_graph.specs.declared.outcome.Visited.{Visited}
+use Rattle.sv_graph.specs.declared.outcome.Visited.TheVariants as visited
 use Rattle.sv_compile.specs.Compile.{around, component, module_code, tree_code, file, files_code, writable, first_tables, program}
 use Rattle.sv_compile.specs.Constants.{all_constants, givens}
 use Rattle.sv_compile.specs.Modules.{is_module, is_module_at, modules_in, AreModules}

@@ -14,15 +14,15 @@ use Rattle.sv_check.specs.Mistakes.{at_file, file_mistakes}
 use Rattle.sv_imports.specs.Cycles.{leads_back, closes, cycles_in, cycles_from}
 use Rattle.sv_imports.specs.Imports.{statements_of, target, targets, imports}
 use Rattle.sv_imports.proofs.Leading.{imports-whole}
-use Rattle.sv_visits.specs.Cycle.{Leads as Chain, IsCycle}
-use Rattle.sv_visits.specs.Links.{is_in, links_of, IsLink}
-use Rattle.sv_visits.specs.Path.{one as one_link}
-use Rattle.sv_visits.specs.Reached.{Leads, start, further}
-use Rattle.sv_visits.specs.Visited.{IsVisited}
-use Rattle.sv_visits.specs.declared.outcome.Visited.{Visited}
-use Rattle.sv_visits.specs.declared.outcome.Visited.TheVariants as visited
-use Rattle.sv_visits.proofs.Cycling.{path_within}
-use Rattle.sv_visits.proofs.Points.{in_head, in_cons}
+use Rattle.sv_graph.specs.Cycle.{Leads as Chain, IsCycle}
+use Rattle.sv_graph.specs.Links.{is_in, links_of, IsLink}
+use Rattle.sv_graph.specs.Path.{one as one_link}
+use Rattle.sv_graph.specs.Reached.{Leads, start, further}
+use Rattle.sv_graph.specs.Visited.{IsVisited}
+use Rattle.sv_graph.specs.declared.outcome.Visited.{Visited}
+use Rattle.sv_graph.specs.declared.outcome.Visited.TheVariants as visited
+use Rattle.sv_graph.proofs.Cycling.{path_within}
+use Rattle.sv_graph.proofs.Points.{in_head, in_cons}
 use Rattle.sv_compile.specs.Modules.{is_module_at, starts, modules_in, AreModules}
 use Rattle.sv_compile.proofs.OneProgram.{visits_same}
 

@@ -13,9 +13,9 @@ use Rattle.sv_code.specs.declared.program.Component.{Component as CodeComponent}
 use Rattle.sv_code.specs.declared.program.FileCode.TheVariants as file_code
 use Rattle.std.specs.List.{filter_map}
 use Rattle.sv_code.specs.declared.program.ProgramFile.{ProgramFile}
-use Rattle.sv_frags.specs.Builds.{Numbers}
+use Rattle.sv_fragments.specs.Builds.{Numbers}
 use Rattle.sv_lower.specs.Tops.{known_in}
-use Rattle.sv_scopes.specs.declared.words.TheConstants.{VIEW}
+use Rattle.sv_scopes.specs.declared.scope.TheConstants.{VIEW}
 use Rattle.sv_compile.specs.declared.files.Sheet.{Sheet}
 use Rattle.sv_compile.specs.Constants.{all_constants, givens}
 use Rattle.sv_compile.specs.Sheet.{parts}
@@ -23,7 +23,7 @@ use Rattle.sv_compile.specs.TopLevel.{tops, cell_of, prop_of, reactive_cells, st
 use Rattle.sv_resolve.specs.declared.cells.Scopes.{Scopes}
 use Rattle.sv_slots.specs.Children.{tag_files}
 use Rattle.sv_slots.specs.Sheets.{all_props}
-use Rattle.sv_visits.specs.Visits.{with_point, Visits, none, again, first}
+use Rattle.sv_graph.specs.Visits.{with_point, Visits, none, again, first}
 use Rattle.sv_compile.specs.Runs.{reactives, runs}
 use Rattle.sv_compile.specs.Compile.{component, numbered_one, tree_code, file, files_code, first_tables, program, program_of}
 

@@ -7,8 +7,8 @@ use Rattle.sv_ast.specs.declared.names.Ref.{Ref}
 use Rattle.sv_ast.specs.declared.script_tree.Stmt.{Stmt}
 use Rattle.sv_imports.specs.Imports.{imports}
 use Rattle.sv_names.specs.Distinct.{with_name, with_names}
-use Rattle.sv_visits.specs.Visited.{IsVisited}
-use Rattle.sv_visits.specs.declared.outcome.Visited.{Visited}
+use Rattle.sv_graph.specs.Visited.{IsVisited}
+use Rattle.sv_graph.specs.declared.outcome.Visited.{Visited}
 use Rattle.sv_compile.specs.Modules.{starts, modules_in, AreModules}
 use Rattle.sv_compile.specs.TopLevel.{lets_of, all_lets}
 

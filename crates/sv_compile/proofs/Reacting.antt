@@ -24,7 +24,7 @@ use Rattle.sv_code.specs.declared.functions.CodeStmtKind
 use Rattle.sv_code.specs.declared.functions.CodeStmtKind.{out-CodeStmtKind}
 use Rattle.sv_code.specs.declared.functions.Function.{Function}
 use Rattle.sv_check.specs.Waiting.{is_reactive, is_reactive_layer}
-use Rattle.sv_frags.proofs.Looking.{numbers_within}
+use Rattle.sv_fragments.proofs.Looking.{numbers_within}
 use Rattle.sv_lower.specs.Lower.{BodyMade, EntryMade, KindMade, FieldMade, StmtKindMade, ArmMade, DeclMade, ExprMade, LinkMade, StmtMade, body, entry, expr_kind, field, stmt_kind, arm, decl, expr, link, stmt, body_made, entry_made, kind_made, field_made, stmt_kind_made, arm_made, decl_made, expr_made, link_made, stmt_made, stmt_kind_code, of_stmt, of_stmts}
 use Rattle.sv_lower.specs.Tops.{Tops}
 use Rattle.sv_names.specs.Uses.{read_names, assigned_names}

@@ -12,7 +12,7 @@ use Rattle.sv_ast.specs.declared.files.SourceFile.{SourceFile}
 use Rattle.sv_ast.specs.declared.names.Named.{Named}
 use Rattle.sv_ast.specs.declared.names.Ref.{Ref}
 use Rattle.sv_ast.specs.declared.names.Ref.TheVariants.{Plain, Store}
-use Rattle.sv_ast.specs.declared.script_tree.Spec.{Spec}
+use Rattle.sv_ast.specs.declared.script_tree.ImportName.{ImportName}
 use Rattle.sv_ast.specs.declared.script_tree.Stmt.{Stmt}
 use Rattle.sv_ast.specs.declared.script_tree.StmtKind.{StmtKind-F, out-StmtKind}
 use Rattle.sv_base.specs.BuiltIn.{life_functions, store_functions}
@@ -161,7 +161,7 @@ module _ (files : List SourceFile) (told : List CheckedComponent) (size : length
   import_stands table (origin.File from) name k is = file_stands from (slice_get files from) name k refl is
   import_stands table origin.Nowhere name k is = absurd (none-some k is)
 
-  spec_stands : (spec : Spec) (o : Option Known) (g : Given) → ((k : Known) → o ≡ Some k → Stands (sizes_told files told) file k) → option_map (λ (k : Known). record { named = spec.local; known = k }) o ≡ Some g → GivenStands (sizes_told files told) file g
+  spec_stands : (spec : ImportName) (o : Option Known) (g : Given) → ((k : Known) → o ≡ Some k → Stands (sizes_told files told) file k) → option_map (λ (k : Known). record { named = spec.local; known = k }) o ≡ Some g → GivenStands (sizes_told files told) file g
   spec_stands spec None g h is = absurd (none-some g is)
   spec_stands spec (Some k) g h is = subst (GivenStands (sizes_told files told) file) (same_Some (record { named = spec.local; known = k }) g is) (h k refl)
 

@@ -11,7 +11,7 @@ use Rattle.sv_compile.specs.Compile.{component}
 use Rattle.sv_compile.specs.Constants.{givens}
 use Rattle.sv_compile.specs.Sheet as sheets
 use Rattle.sv_compile.specs.TopLevel.{tops}
-use Rattle.sv_frags.specs.declared.around.Tables.{Tables}
+use Rattle.sv_fragments.specs.declared.around.Tables.{Tables}
 use Rattle.sv_lower.specs.Does.{Makes}
 use Rattle.sv_lower.specs.Tops.{Tops}
 use Rattle.sv_slots.specs.Children.{Points, tag_files}

@@ -19,8 +19,8 @@ use Rattle.sv_code.specs.declared.program.ProgramFile.{ProgramFile}
 use Rattle.sv_compile.specs.Constants.{all_constants, givens}
 use Rattle.sv_compile.specs.Sheet.{sheet, parts}
 use Rattle.sv_compile.specs.TopLevel.{tops}
-use Rattle.sv_frags.specs.declared.around.Tables.{Tables}
-use Rattle.sv_frags.specs.Builds.{Around, Numbers}
+use Rattle.sv_fragments.specs.declared.around.Tables.{Tables}
+use Rattle.sv_fragments.specs.Builds.{Around, Numbers}
 use Rattle.sv_lower.specs.Lower.{of_stmts}
 use Rattle.sv_lower.specs.Tops.{Tops}
 use Rattle.sv_slots.specs.Children.{tag_files}

@@ -7,7 +7,7 @@ use Rattle.sv_ast.specs.declared.files.SourceFile.{SourceFile}
 use Rattle.sv_ast.specs.declared.names.Named.{Named}
 use Rattle.sv_ast.specs.declared.script_tree.Decl.{Decl, out-Decl}
 use Rattle.sv_ast.specs.declared.script_tree.Import.{Import}
-use Rattle.sv_ast.specs.declared.script_tree.Spec.{Spec}
+use Rattle.sv_ast.specs.declared.script_tree.ImportName.{ImportName}
 use Rattle.sv_ast.specs.declared.script_tree.Stmt.{Stmt}
 use Rattle.sv_ast.specs.declared.script_tree.StmtKind.{StmtKind-F, out-StmtKind}
 use Rattle.sv_base.specs.BuiltIn.{life_functions, store_functions}
@@ -79,7 +79,7 @@ import_of table files origin.Stores name = store_given table name
 import_of table files (origin.File file) name = export_at file (slice_get files file) name
 import_of table files origin.Nowhere name = None
 
-abbrev pub spec_given : Table → List SourceFile → Origin → Spec → Option Given
+abbrev pub spec_given : Table → List SourceFile → Origin → ImportName → Option Given
 spec_given table files from spec = option_map (λ k. record { named = spec.local; known = k }) (import_of table files from spec.given.name)
 
 abbrev pub imported_layer : Table → List SourceFile → StmtLayer → List Given

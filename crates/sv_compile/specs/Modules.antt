@@ -5,9 +5,9 @@ use Rattle.sv_ast.specs.declared.files.FileTree.{FileTree}
 use Rattle.sv_ast.specs.declared.files.FileTree.TheVariants as tree
 use Rattle.sv_ast.specs.declared.files.SourceFile.{SourceFile}
 use Rattle.sv_imports.specs.Imports.{imports}
-use Rattle.sv_visits.specs.Visited.{IsVisited}
-use Rattle.sv_visits.specs.declared.outcome.Visited.{Visited}
-use Rattle.sv_visits.specs.declared.outcome.Visited.TheVariants as visited
+use Rattle.sv_graph.specs.Visited.{IsVisited}
+use Rattle.sv_graph.specs.declared.outcome.Visited.{Visited}
+use Rattle.sv_graph.specs.declared.outcome.Visited.TheVariants as visited
 
 abbrev pub is_module : FileTree → Bool
 is_module (tree.Component c) = false

@@ -7,7 +7,7 @@ use Rattle.sv_ast.specs.declared.script_tree.Stmt.{Stmt}
 use Rattle.sv_code.specs.declared.program.Run.{Run}
 use Rattle.sv_names.specs.Uses.{read_names, assigned_names}
 use Rattle.sv_check.specs.Waiting.{is_reactive}
-use Rattle.sv_reads.specs.Reading.{numbers}
+use Rattle.sv_deps.specs.Reading.{numbers}
 
 -- statements with their places in a script, where the first has some place
 abbrev pub placed : ℕ → List Stmt → List (ℕ × Stmt)

@@ -12,12 +12,12 @@ use Rattle.sv_compile.specs.declared.files.Sheet.{Sheet}
 use Rattle.sv_compile.specs.Constants.{all_constants}
 use Rattle.sv_compile.specs.Runs.{reactives, runs}
 use Rattle.sv_compile.specs.TopLevel.{cell_of, prop_of, reactive_cells, stores_from}
-use Rattle.sv_frags.specs.Builds.{Builds, lowered}
-use Rattle.sv_frags.specs.Frags.{fragments}
+use Rattle.sv_fragments.specs.Builds.{Builds, lowered}
+use Rattle.sv_fragments.specs.Frags.{fragments}
 use Rattle.sv_lower.specs.Does.{of_two}
 use Rattle.sv_lower.specs.Lower.{of_stmts}
 use Rattle.sv_lower.specs.Tops.{Tops, known_in}
-use Rattle.sv_scopes.specs.declared.words.TheConstants.{VIEW}
+use Rattle.sv_scopes.specs.declared.scope.TheConstants.{VIEW}
 use Rattle.sv_slots.specs.Sheets.{all_props}
 
 abbrev pub sheet : Tops → List Given → List Stmt → CheckedComponent → Sheet

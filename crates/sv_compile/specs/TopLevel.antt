@@ -23,7 +23,7 @@ use Rattle.sv_lower.specs.Tops.{Tops, known_in, with_all}
 use Rattle.sv_lower.specs.Words.{words}
 use Rattle.sv_names.specs.Distinct.{has, firsts}
 use Rattle.sv_names.specs.Locals.{name_of}
-use Rattle.sv_reads.specs.Reading.{numbers}
+use Rattle.sv_deps.specs.Reading.{numbers}
 
 -- cells, where the first has some number
 abbrev pub cells_from : ℕ → List Ref → List (Ref × Known)

@@ -5,7 +5,7 @@ ghost use Rattle.sv_compile.specs.Compile as spec;
 ghost use Rattle.sv_compile.specs.Constants.{all_constants as spec_constants};
 ghost use Rattle.sv_compile.specs.Runs.{reactives};
 ghost use Rattle.sv_compile.specs.Sheet as sheets;
-ghost use Rattle.sv_frags.specs.Around.{seen};
+ghost use Rattle.sv_fragments.specs.Around.{seen};
 ghost use Rattle.sv_lower.specs.Does.{Makes};
 
 use crate::cells::{cell_of, props_of, reactive_cells, stores_of};
@@ -19,7 +19,7 @@ use sv_check::CheckedComponent;
 use sv_code::{
     CellList, CodeStmts, Component as CodeComponent, Frags, Module, Props, Runs, StoreCells,
 };
-use sv_frags::{Around, Tables, fragments_of};
+use sv_fragments::{Around, Tables, fragments_of};
 use sv_lower::{Inside, TopNames, lower_stmts};
 use sv_names::LocalScope;
 use sv_scopes::VIEW;

@@ -8,7 +8,7 @@ ghost use Rattle.sv_compile.specs.declared.imports.TheConstants.{LIVES};
 
 use crate::constants::{Given, constant_number, place_in};
 use std::alloc::Global;
-use sv_ast::{Bundle, SourceFile, Spec, Stmt, StmtKind};
+use sv_ast::{Bundle, SourceFile, ImportName, Stmt, StmtKind};
 use sv_base::built_in::LIFE_FUNCTIONS;
 use sv_base::{Name, Names, NoMemory};
 use sv_code::{Known, Life};
@@ -49,7 +49,7 @@ fn add_specs(
     given: &mut Items<Given>,
     bundle: &Bundle,
     from: Origin,
-    specs: &[Spec],
+    specs: &[ImportName],
 ) -> Result<(), NoMemory>
     ensures { OnOk result (given.new ≡ given.old ++ filter_map (spec.spec_given bundle.now.names bundle.now.files from) specs.now) }
 {
@@ -62,7 +62,7 @@ fn add_specs(
 
 fn add_known(
     given: &mut Items<Given>,
-    imported: &Spec,
+    imported: &ImportName,
     known: Option<Known>,
 ) -> Result<(), NoMemory>
     ensures { OnOk result (given.new ≡ given.old ++ option_to_list (option_map (λ k. record { named = imported.now.local; known = k }) known)) }

@@ -8,7 +8,7 @@ use sv_ast::{FileTree, SourceFile};
 use sv_base::NoMemory;
 use sv_code::ModuleList;
 use sv_imports::import_links;
-use sv_visits::{Visited, visit};
+use sv_graph::{Visited, visit};
 
 /// Module files in the order in which they run: each behind those that it imports, in the order in which a visit of the first file and its
 /// imports ends with them. `NoMemory` comes at want of memory, or of a number below 2^16 for a file.

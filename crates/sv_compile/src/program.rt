@@ -22,7 +22,7 @@ use sv_code::{
     FileCode, Function, FunctionBody, Functions, Handlers, Locals, Program, ProgramFile,
     ProgramFiles, Tags,
 };
-use sv_frags::Tables;
+use sv_fragments::Tables;
 
 /// Compiles a checked program, of whose files the lines begin in order. `NoMemory` comes at want of memory, or of a number below 2^32 for a
 /// function, a tag, a handler, a constant or a statement, or of one below 2^16 for a file.

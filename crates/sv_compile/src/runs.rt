@@ -10,7 +10,7 @@ use sv_ast::{Decl, Ref, RefList, Stmt, StmtKind};
 use sv_base::NoMemory;
 use sv_code::{Run, Runs};
 use sv_names::{assigned_names, read_names};
-use sv_reads::numbers;
+use sv_deps::numbers;
 
 // A reactive statement, and which statement of its script it is.
 #[derive(Clone, Copy)]

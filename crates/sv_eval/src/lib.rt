@@ -7,7 +7,7 @@ mod listeners;
 mod literals;
 mod statements;
 mod values;
-mod words;
+mod lookups;
 
 pub use calls::call_value;
 pub use listeners::{Dispatched, eval_part, tell};

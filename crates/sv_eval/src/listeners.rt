@@ -10,7 +10,7 @@ ghost use Rattle.sv_meaning.specs.Parts.{part_value};
 
 use crate::calls::call_value;
 use crate::values::eval;
-use crate::words::{handler_of, listens_to};
+use crate::lookups::{handler_of, listens_to};
 use std::alloc::Global;
 use sv_base::{Span, Text};
 use sv_code::{Code, FragAttr, Part, Program};

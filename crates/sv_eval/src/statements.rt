@@ -8,7 +8,7 @@ ghost use Rattle.sv_meaning.specs.Outcome.{Next};
 ghost use Rattle.sv_meaning.specs.Statements.{does, in_order, first_of, scoped, for_step, each_step, turns, over_list, item_turns, item_turn, otherwise};
 
 use crate::values::{eval, eval_or, eval_test};
-use crate::words::takes_step;
+use crate::lookups::takes_step;
 use sv_base::{Name, Span};
 use sv_code::{Code, CodeArm, CodeDecl, CodeStmt, CodeStmtKind};
 use sv_meaning::{Context, End, EvalError, Locals, count, declare, fault};

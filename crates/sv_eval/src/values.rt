@@ -9,7 +9,7 @@ ghost use Rattle.sv_meaning.specs.Values.{all_values, assign_step, bump_step, na
 
 use crate::calls::eval_call;
 use crate::literals::{eval_fields, eval_items};
-use crate::words::Call;
+use crate::lookups::Call;
 use sv_ast::AssignOp;
 use sv_base::Span;
 use sv_code::{Code, CodeKind, CodeLink, Known};

@@ -6,7 +6,7 @@ ghost use Rattle.sv_fresh.specs.Class as spec;
 use crate::attr::{name_text, place, value_attr};
 use crate::scene::Here;
 use crate::values::holds_at;
-use crate::words::{spaced, with_word, words};
+use crate::classes::{spaced, with_word, words};
 use std::alloc::Global;
 use sv_base::{Name, NoMemory, Text};
 use sv_code::{FragAttr, FragValue, Program};

@@ -13,6 +13,6 @@ mod page;
 mod scene;
 mod slots;
 mod values;
-mod words;
+mod classes;
 
 pub use page::render;

@@ -9,10 +9,10 @@ use Rattle.std.proofs.lemmas.List.{length_push, length-map}
 use Rattle.sv_ast.specs.declared.files.SourceFile.{SourceFile}
 use Rattle.sv_ast.specs.declared.script_tree.Stmt.{Stmt}
 use Rattle.sv_ast.specs.declared.script_tree.StmtKind.{StmtKind-F, out-StmtKind}
-use Rattle.sv_visits.specs.Links.{is_in, links_of, IsWhole}
-use Rattle.sv_visits.specs.Reached.{Leads, IsReached}
-use Rattle.sv_visits.specs.Search.{met_at}
-use Rattle.sv_visits.proofs.Points.{in_cons}
+use Rattle.sv_graph.specs.Links.{is_in, links_of, IsWhole}
+use Rattle.sv_graph.specs.Reached.{Leads, IsReached}
+use Rattle.sv_graph.specs.Search.{met_at}
+use Rattle.sv_graph.proofs.Points.{in_cons}
 use Rattle.sv_imports.specs.Imports.{StmtLayer, statements_of, name_in, file_of_name, target_layer, target, targets, imports}
 use Rattle.sv_imports.specs.Table.{leads_in, IsTable}
 

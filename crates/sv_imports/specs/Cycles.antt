@@ -4,8 +4,8 @@ use Rattle.std.specs.Prelude.{◌≡◌, ℕ, suc, ◌<◌, Bool, true, false, L
 use Rattle.sv_ast.specs.declared.files.SourceFile.{SourceFile}
 use Rattle.sv_ast.specs.declared.script_tree.Stmt.{Stmt}
 use Rattle.sv_base.specs.declared.span.Span.{Span}
-use Rattle.sv_visits.specs.Links.{links_of}
-use Rattle.sv_visits.specs.Reached.{Leads}
+use Rattle.sv_graph.specs.Links.{links_of}
+use Rattle.sv_graph.specs.Reached.{Leads}
 use Rattle.sv_imports.specs.Imports.{statements_of, target, imports}
 
 -- a file is another, or leads to it by imports

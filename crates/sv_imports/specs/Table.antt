@@ -2,8 +2,8 @@
 use Rattle.std.specs.Prelude.{◌≡◌, ℕ, ◌<◌, Bool, true, false, List, [], ◌∷◌, length, slice_get, Vec}
 use Rattle.std.specs.Option.{option_map_or}
 use Rattle.std.specs.declared.alloc.Global.{Global}
-use Rattle.sv_visits.specs.Links.{links_of}
-use Rattle.sv_visits.specs.Reached.{Leads}
+use Rattle.sv_graph.specs.Links.{links_of}
+use Rattle.sv_graph.specs.Reached.{Leads}
 
 abbrev pub leads_in : List (Vec Bool Global) → ℕ → ℕ → Bool
 leads_in table p q = option_map_or (λ row. option_map_or (λ is_reached. is_reached) (slice_get row.items q) false) (slice_get table p) false

@@ -7,7 +7,7 @@ use Rattle.sv_ast.specs.declared.files.Bundle.{Bundle}
 use Rattle.sv_ast.specs.declared.files.SourceFile.{SourceFile}
 use Rattle.sv_ast.specs.declared.names.Ref.{Ref}
 use Rattle.sv_ast.specs.declared.names.Ref.TheVariants.{Plain}
-use Rattle.sv_ast.specs.declared.script_tree.Spec.{Spec}
+use Rattle.sv_ast.specs.declared.script_tree.ImportName.{ImportName}
 use Rattle.sv_ast.specs.declared.script_tree.Stmt.{Stmt}
 use Rattle.sv_ast.specs.declared.script_tree.StmtKind.{StmtKind-F, out-StmtKind}
 use Rattle.sv_base.specs.BuiltIn.{life_functions, store_functions}
@@ -39,7 +39,7 @@ gives table given (File file) name = option_map_or (λ names. has (Plain name) n
 gives table given Nowhere name = false
 
 -- at each name between the braces of an import that isn't given
-abbrev pub unknown_from : Table → List (List Ref) → Origin → List Spec → List Span
+abbrev pub unknown_from : Table → List (List Ref) → Origin → List ImportName → List Span
 unknown_from table given origin specs = map (λ spec. spec.given.span) (filter (λ spec. not (gives table given origin spec.given.name)) specs)
 
 abbrev pub unknown_layer : Table → List SourceFile → List (List Ref) → StmtLayer → List Span

@@ -1,6 +1,6 @@
 // Circles of imports.
 ghost use Rattle.std.specs.Prelude.{◌≡◌, ◌<◌, ◌^◌, IfOk, OnOk, length};
-ghost use Rattle.sv_visits.specs.Links.{IsWhole};
+ghost use Rattle.sv_graph.specs.Links.{IsWhole};
 ghost use Rattle.sv_imports.specs.Imports as imports;
 ghost use Rattle.sv_imports.specs.Cycles as spec;
 ghost use Rattle.sv_imports.specs.Table.{leads_in, IsTable};
@@ -10,7 +10,7 @@ use std::alloc::Global;
 use sv_ast::{Bundle, SourceFile, Stmt};
 use sv_base::{NoMemory, Span};
 use sv_list::Items;
-use sv_visits::reached;
+use sv_graph::reached;
 
 /// For each file of a bundle the places of its imports that are part of a circle: of a file from which imports lead to this one, itself
 /// included. The place is that of the whole statement. `NoMemory` comes at want of memory, or of a number below 2^32 for a file.

@@ -6,10 +6,10 @@ mod files;
 mod given;
 mod origin;
 mod unknown;
-mod words;
+mod language;
 
 pub use cycles::{import_cycles, import_links};
 pub use files::{file_named, statements_of};
 pub use origin::{Origin, origin_of};
 pub use unknown::unknown_imports;
-pub use words::{is_life_function, is_store_function};
+pub use language::{is_life_function, is_store_function};

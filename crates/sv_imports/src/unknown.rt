@@ -5,9 +5,9 @@ ghost use Rattle.sv_imports.specs.Unknown as spec;
 use crate::files::statements_of;
 use crate::given::given_names;
 use crate::origin::{Origin, origin_of};
-use crate::words::{is_life_function, is_store_function};
+use crate::language::{is_life_function, is_store_function};
 use std::alloc::Global;
-use sv_ast::{Bundle, Import, Ref, SourceFile, Spec, Stmt, StmtKind};
+use sv_ast::{Bundle, Import, Ref, SourceFile, ImportName, Stmt, StmtKind};
 use sv_base::{Name, Names, NoMemory, Span};
 use sv_list::Items;
 use sv_names::Distinct;
@@ -88,7 +88,7 @@ fn find_in_specs(
     names: &Names,
     given: &[Distinct],
     origin: Origin,
-    specs: &[Spec],
+    specs: &[ImportName],
 ) -> Result<(), NoMemory>
     ensures { OnOk result (places.new ≡ places.old ++ spec.unknown_from names.now given.now origin specs.now) }
 {

@@ -7,7 +7,7 @@ use Rattle.sv_ast.specs.declared.names.Ref.TheVariants.{Plain, Store}
 use Rattle.sv_base.specs.declared.names.Name.{Name}
 use Rattle.sv_code.specs.declared.parts.Reading.{Reading}
 use Rattle.sv_names.specs.Distinct.{same_ref}
-use Rattle.sv_scopes.specs.declared.words.TheConstants.{VIEW}
+use Rattle.sv_scopes.specs.declared.scope.TheConstants.{VIEW}
 
 -- the text of a name, where `names` are the texts of names by number; a name without a text has the empty one
 abbrev pub name_text : (names : List (List ℕ)) → Name → List ℕ

@@ -9,7 +9,7 @@ use Rattle.sv_ast.specs.declared.names.Ref.TheVariants.{Plain, Store}
 use Rattle.sv_code.specs.declared.known.Known.{Known}
 use Rattle.sv_names.specs.Distinct.{same_ref}
 use Rattle.sv_lower.specs.Tops.{Tops, known_in, with_known}
-use Rattle.sv_lower.specs.declared.words.Word.{Word}
+use Rattle.sv_lower.specs.declared.members.Word.{Word}
 
 -- the test of names that a map makes
 abbrev pub ref_eq : Ref → Ref → Bool

@@ -7,7 +7,7 @@ use Rattle.sv_code.specs.declared.known.Known.{Known}
 use Rattle.sv_code.specs.declared.known.Known.TheVariants.{Local}
 use Rattle.sv_code.specs.declared.known.Method.{Method}
 use Rattle.sv_code.specs.declared.known.Property.{Property}
-use Rattle.sv_lower.specs.declared.words.Word.{Word}
+use Rattle.sv_lower.specs.declared.members.Word.{Word}
 use Rattle.sv_names.specs.Distinct.{same_ref, has}
 use Rattle.sv_names.specs.Locals.{name_of}
 

@@ -3,8 +3,8 @@ use Rattle.std.specs.Prelude.{ℕ, List, [], ◌∷◌, ◌++◌, map, length, n
 use Rattle.sv_base.specs.BuiltIn.{list_calls, value_calls, math_functions}
 use Rattle.sv_base.specs.Names.{Table, number_of}
 use Rattle.sv_code.specs.declared.known.Method.{Method}
-use Rattle.sv_lower.specs.declared.words.TheConstants.{LIST_METHODS, VALUE_METHODS, MATH_METHODS, OTHER_WORDS, OTHER_METHODS}
-use Rattle.sv_lower.specs.declared.words.Word.{Word}
+use Rattle.sv_lower.specs.declared.members.TheConstants.{LIST_METHODS, VALUE_METHODS, MATH_METHODS, OTHER_WORDS, OTHER_METHODS}
+use Rattle.sv_lower.specs.declared.members.Word.{Word}
 
 -- a text with what it means, where some name of a table has it
 abbrev pub word : Table → List ℕ → Method → List Word

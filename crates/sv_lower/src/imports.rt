@@ -2,7 +2,7 @@
 ghost use Rattle.std.specs.Prelude.{◌≡◌, IfOk};
 
 use std::alloc::Global;
-use sv_ast::{Import, Specs};
+use sv_ast::{Import, ImportNames};
 use sv_base::NoMemory;
 
 /// The same import.
@@ -12,6 +12,6 @@ pub(crate) fn copy_import(alloc: Global, import: &Import) -> Result<Import, NoMe
     Ok(Import {
         from: import.from.share()?,
         whole: import.whole,
-        specs: Specs::copy_of(alloc, import.specs.as_slice())?,
+        specs: ImportNames::copy_of(alloc, import.specs.as_slice())?,
     })
 }

@@ -10,10 +10,10 @@ mod inside;
 mod lists;
 mod statements;
 mod tops;
-mod words;
+mod members;
 
 pub use expressions::lower_expr;
 pub use inside::{Inside, known_at};
 pub use statements::lower_stmts;
 pub use tops::TopNames;
-pub use words::Word;
+pub use members::Word;

@@ -3,7 +3,7 @@ ghost use Rattle.std.specs.Prelude.{◌≡◌, [], IfOk, OnOk};
 ghost use Rattle.sv_lower.specs.Tops as spec;
 ghost use Rattle.sv_lower.specs.Words.{words as spec_words};
 
-use crate::words::{Word, method_of, words};
+use crate::members::{Word, method_of, words};
 use indexmap::IndexMap;
 use std::alloc::Global;
 use std::marker::Model;

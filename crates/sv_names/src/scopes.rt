@@ -5,7 +5,7 @@ ghost use Rattle.sv_names.specs.Uses.{named, imported, optional, together, scope
 
 use crate::once::Distinct;
 use std::alloc::Global;
-use sv_ast::{Body, Decl, Import, Named, Ref, Spec, Stmt, StmtKind};
+use sv_ast::{Body, Decl, Import, Named, Ref, ImportName, Stmt, StmtKind};
 use sv_base::NoMemory;
 
 /// Declares a name.
@@ -34,7 +34,7 @@ fn declare_decls(scope: &mut Distinct, decls: &[Decl]) -> Result<(), NoMemory>
     Ok(())
 }
 
-fn declare_specs(scope: &mut Distinct, specs: &[Spec]) -> Result<(), NoMemory>
+fn declare_specs(scope: &mut Distinct, specs: &[ImportName]) -> Result<(), NoMemory>
     ensures { OnOk result (scope.new ≡ with_names scope.old (map (λ spec. named spec.local) specs.now)) }
 {
     for spec in specs {

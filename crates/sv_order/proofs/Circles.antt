@@ -2,9 +2,9 @@
 use Rattle.std.proofs.Common.{◌≡◌, ℕ, ◌<◌, ◌≤◌, true, List, [], ◌∷◌, sym, ◌∙◌, inl, inr, ◌⊎◌, subst, arith}
 use Rattle.std.specs.List.{flat_map}
 use Rattle.std.proofs.lemmas.Bool.{cases_lt, false≢true}
-use Rattle.sv_visits.specs.Links.{is_in}
-use Rattle.sv_visits.specs.Cycle.{Leads, IsCycle, IsFirstCycle}
-use Rattle.sv_visits.proofs.Points.{in_head, in_tail, in_cons, in_left, in_right, in_parts}
+use Rattle.sv_graph.specs.Links.{is_in}
+use Rattle.sv_graph.specs.Cycle.{Leads, IsCycle, IsFirstCycle}
+use Rattle.sv_graph.proofs.Points.{in_head, in_tail, in_cons, in_left, in_right, in_parts}
 use Rattle.sv_order.specs.Points.{IsTwoStep}
 use Rattle.sv_order.proofs.TwoSteps.{only, only-below, only-above}
 

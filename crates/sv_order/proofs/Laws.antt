@@ -3,15 +3,15 @@ use Rattle.std.proofs.Common.{◌≡◌, ℕ, ◌<◌, ◌≤◌, true, cond, Li
 use Rattle.std.specs.Prelude.{nat_lt, filter}
 use Rattle.std.specs.List.{range_with_len}
 use Rattle.std.proofs.lemmas.Bool.{cases_lt, lt-ltb, le-ltb, false≢true, false_from_ne_true}
-use Rattle.sv_visits.specs.Links.{is_in, links_of, IsLink}
-use Rattle.sv_visits.specs.Visits.{Visits}
-use Rattle.sv_visits.specs.Cycle.{IsCycle, IsFirstCycle}
-use Rattle.sv_visits.specs.Visited.{IsVisited}
-use Rattle.sv_visits.specs.declared.outcome.Visited.{Visited}
-use Rattle.sv_visits.specs.declared.outcome.Visited.TheVariants.{Order, Cycle}
-use Rattle.sv_visits.proofs.Points.{in_head}
-use Rattle.sv_visits.proofs.Visiting.{visits-reach}
-use Rattle.sv_visits.proofs.Cycling.{first-map}
+use Rattle.sv_graph.specs.Links.{is_in, links_of, IsLink}
+use Rattle.sv_graph.specs.Visits.{Visits}
+use Rattle.sv_graph.specs.Cycle.{IsCycle, IsFirstCycle}
+use Rattle.sv_graph.specs.Visited.{IsVisited}
+use Rattle.sv_graph.specs.declared.outcome.Visited.{Visited}
+use Rattle.sv_graph.specs.declared.outcome.Visited.TheVariants.{Order, Cycle}
+use Rattle.sv_graph.proofs.Points.{in_head}
+use Rattle.sv_graph.proofs.Visiting.{visits-reach}
+use Rattle.sv_graph.proofs.Cycling.{first-map}
 use Rattle.sv_order.specs.declared.reads.Reads.{Reads}
 use Rattle.sv_order.specs.ReactiveOrder.{Before, before_of, IsOrder, IsEachOnce, IsBehind}
 use Rattle.sv_order.specs.Points.{IsTwoStep, IsFound}

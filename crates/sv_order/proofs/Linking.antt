@@ -8,10 +8,10 @@ use Rattle.std.proofs.lemmas.List.{append-nil, length-replicate, length_push, le
 use Rattle.std.proofs.lemmas.List.Elements.{filter-append}
 use Rattle.std.proofs.lemmas.List.Quantifiers.{position-Some}
 use Rattle.sv_ast.specs.declared.names.Ref.{Ref}
-use Rattle.sv_visits.specs.Links.{is_in, links_of, IsLink, IsWhole}
-use Rattle.sv_visits.proofs.Points.{in_cons}
-use Rattle.sv_visits.proofs.Turning.{unlinked-none}
-use Rattle.sv_visits.proofs.Underway.{range-more}
+use Rattle.sv_graph.specs.Links.{is_in, links_of, IsLink, IsWhole}
+use Rattle.sv_graph.proofs.Points.{in_cons}
+use Rattle.sv_graph.proofs.Turning.{unlinked-none}
+use Rattle.sv_graph.proofs.Underway.{range-more}
 use Rattle.sv_order.specs.declared.reads.Reads.{Reads}
 use Rattle.sv_names.specs.Distinct.{same_ref, has}
 use Rattle.sv_order.specs.ReactiveOrder.{reads_of, sets_of, needs_of, setters_of, before_of}

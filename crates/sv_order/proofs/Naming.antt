@@ -5,8 +5,8 @@ use Rattle.std.specs.List.{flat_map, range_with_len}
 use Rattle.std.proofs.lemmas.Bool.{cases_Bool, cases_lt, false≢true, or_right, not-true, not_from_false}
 use Rattle.std.proofs.lemmas.List.{get_or_past, length-map}
 use Rattle.sv_ast.specs.declared.names.Ref.{Ref}
-use Rattle.sv_visits.specs.Links.{is_in}
-use Rattle.sv_visits.proofs.Points.{in_head, in_tail, in_cons, in_left, in_right, in_parts}
+use Rattle.sv_graph.specs.Links.{is_in}
+use Rattle.sv_graph.proofs.Points.{in_head, in_tail, in_cons, in_left, in_right, in_parts}
 use Rattle.sv_order.specs.declared.reads.Reads.{Reads}
 use Rattle.sv_names.specs.Distinct.{same_ref, has}
 use Rattle.sv_names.proofs.Same.{has-head, has-cons}

@@ -4,10 +4,10 @@ use Rattle.std.specs.Prelude.{◌==◌, ◌||◌, count_by}
 use Rattle.std.proofs.lemmas.Bool.{cases_Bool, false≢true, eq-eqb, ne_eqb, cases_eq}
 use Rattle.std.proofs.lemmas.List.{append-nil}
 use Rattle.std.proofs.lemmas.List.Sums.{sum_by_push, sum_by-cons}
-use Rattle.sv_visits.specs.Links.{is_in}
-use Rattle.sv_visits.specs.Visits.{with_point, Visits, none, again, first}
-use Rattle.sv_visits.proofs.Points.{in_head, in_tail, in_cons, in_push_cases, with_new, with_old}
-use Rattle.sv_visits.proofs.Visiting.{visits-reach}
+use Rattle.sv_graph.specs.Links.{is_in}
+use Rattle.sv_graph.specs.Visits.{with_point, Visits, none, again, first}
+use Rattle.sv_graph.proofs.Points.{in_head, in_tail, in_cons, in_push_cases, with_new, with_old}
+use Rattle.sv_graph.proofs.Visiting.{visits-reach}
 
 abbrev pub times : ℕ → List ℕ → ℕ
 times p points = count_by (λ x. x == p) points

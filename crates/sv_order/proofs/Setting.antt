@@ -8,8 +8,8 @@ use Rattle.std.proofs.lemmas.List.{take_more, take_all, get_or-set_same, get_or-
 use Rattle.std.proofs.lemmas.List.Elements.{filter-append, filter_map-append}
 use Rattle.std.proofs.lemmas.List.Quantifiers.{position-Some}
 use Rattle.sv_ast.specs.declared.names.Ref.{Ref}
-use Rattle.sv_visits.specs.Links.{is_in, links_of}
-use Rattle.sv_visits.proofs.Points.{in_head, in_tail, in_push_cases}
+use Rattle.sv_graph.specs.Links.{is_in, links_of}
+use Rattle.sv_graph.proofs.Points.{in_head, in_tail, in_push_cases}
 use Rattle.sv_names.specs.Distinct.{same_ref, has}
 use Rattle.sv_order.specs.Points.{is_last, points_of, with_setter, AreBelow, NotesSetter, TellsOwn}
 use Rattle.sv_names.proofs.Same.{same_ref-true, has-append, has-cons, has-head}

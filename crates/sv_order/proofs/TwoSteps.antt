@@ -3,10 +3,10 @@ use Rattle.std.proofs.Common.{◌≡◌, ℕ, zero, suc, ◌+◌, ◌<◌, ◌�
 use Rattle.std.specs.Prelude.{nat_lt, filter}
 use Rattle.std.specs.List.{flat_map, range_with_len}
 use Rattle.std.proofs.lemmas.Bool.{cases_Bool, cases_lt, lt-ltb, le-ltb, false≢true, false_from_ne_true}
-use Rattle.sv_visits.specs.Links.{is_in}
-use Rattle.sv_visits.specs.Visits.{with_point, Visits, none, again, first}
-use Rattle.sv_visits.proofs.Points.{in_head, in_tail, in_cons, in_left, in_push_cases, with_new, with_old}
-use Rattle.sv_visits.proofs.Visiting.{visits-append, visits-reach}
+use Rattle.sv_graph.specs.Links.{is_in}
+use Rattle.sv_graph.specs.Visits.{with_point, Visits, none, again, first}
+use Rattle.sv_graph.proofs.Points.{in_head, in_tail, in_cons, in_left, in_push_cases, with_new, with_old}
+use Rattle.sv_graph.proofs.Visiting.{visits-append, visits-reach}
 use Rattle.sv_order.specs.Points.{IsTwoStep}
 
 module _ (count : ℕ) where

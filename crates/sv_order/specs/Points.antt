@@ -4,9 +4,9 @@ use Rattle.std.specs.Prelude.{◌≡◌, ℕ, ◌+◌, ◌<◌, ◌≤◌, Bool,
 use Rattle.std.specs.List.{flat_map, filter_map}
 use Rattle.std.specs.Option.{option_map}
 use Rattle.sv_ast.specs.declared.names.Ref.{Ref}
-use Rattle.sv_visits.specs.Links.{is_in, links_of, IsLink}
-use Rattle.sv_visits.specs.Visited.{IsVisited}
-use Rattle.sv_visits.specs.declared.outcome.Visited.{Visited}
+use Rattle.sv_graph.specs.Links.{is_in, links_of, IsLink}
+use Rattle.sv_graph.specs.Visited.{IsVisited}
+use Rattle.sv_graph.specs.declared.outcome.Visited.{Visited}
 use Rattle.sv_order.specs.declared.reads.Reads.{Reads}
 use Rattle.sv_names.specs.Distinct.{same_ref, has}
 use Rattle.sv_order.specs.ReactiveOrder.{sets_of, before_of}

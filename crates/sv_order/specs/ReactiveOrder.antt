@@ -4,9 +4,9 @@ use Rattle.std.specs.Prelude.{◌≡◌, ℕ, ◌==◌, not, true, false, List, 
 use Rattle.std.specs.List.{flat_map, range_with_len}
 use Rattle.sv_ast.specs.declared.names.Ref.{Ref}
 use Rattle.sv_names.specs.Distinct.{has}
-use Rattle.sv_visits.specs.Links.{is_in}
-use Rattle.sv_visits.specs.Visits.{Visits}
-use Rattle.sv_visits.specs.Cycle.{IsFirstCycle}
+use Rattle.sv_graph.specs.Links.{is_in}
+use Rattle.sv_graph.specs.Visits.{Visits}
+use Rattle.sv_graph.specs.Cycle.{IsFirstCycle}
 use Rattle.sv_order.specs.declared.reads.OrderError.{OrderError}
 use Rattle.sv_order.specs.declared.reads.OrderError.TheVariants.{Cycle, NoMemory}
 use Rattle.sv_order.specs.declared.reads.Reads.{Reads}

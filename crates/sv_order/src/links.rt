@@ -1,6 +1,6 @@
 // The points for visits: the statements by their places, and behind them the assigned names by their numbers.
 ghost use Rattle.std.specs.Prelude.{◌≡◌, ◌+◌, ◌<◌, ◌≤◌, ◌^◌, ℕ, [], ◌∷◌, ◌++◌, IfOk, OnOk, length, filter, not, if◌then◌else◌};
-ghost use Rattle.sv_visits.specs.Links.{links_of, IsWhole};
+ghost use Rattle.sv_graph.specs.Links.{links_of, IsWhole};
 ghost use Rattle.sv_names.specs.Distinct.{has};
 ghost use Rattle.sv_order.specs.ReactiveOrder.{before_of};
 ghost use Rattle.sv_order.specs.Points.{KnowsAll, IsTwoStep, is_last, points_of, NotesSetter, TellsOwn, AreBelow};
@@ -12,7 +12,7 @@ use std::alloc::Global;
 use sv_ast::Ref;
 use sv_base::NoMemory;
 use sv_list::Items;
-use sv_visits::unlinked;
+use sv_graph::unlinked;
 
 /// The links of statements and names. A statement is linked to each name that it reads and doesn't assign, and a name to the
 /// statements that assign it.

@@ -1,6 +1,6 @@
 // The order of reactive statements.
 ghost use Rattle.std.specs.Prelude.{◌≡◌, ◌<◌, ◌^◌, ℕ, List, length, IfOk, IfErr, OnOk, filter, nat_lt};
-ghost use Rattle.sv_visits.specs.Cycle.{IsCycle, IsFirstCycle};
+ghost use Rattle.sv_graph.specs.Cycle.{IsCycle, IsFirstCycle};
 ghost use Rattle.sv_order.specs.Points.{IsFound};
 ghost use Rattle.sv_order.specs.ReactiveOrder.{Before, IsOrder, IsEachOnce, IsBehind, IsCause};
 
@@ -9,7 +9,7 @@ use crate::names::assigned_names;
 use crate::reads::{OrderError, Reads};
 use std::alloc::Global;
 use sv_base::NoMemory;
-use sv_visits::{Visited, visit};
+use sv_graph::{Visited, visit};
 
 // The most statements and names, so that each point is a `u32`.
 const POINT_LIMIT: usize = u32::MAX as usize;

@@ -5,6 +5,6 @@ mod lines;
 mod refused;
 mod run;
 mod turn;
-mod words;
+mod faults;
 
 pub use run::play;

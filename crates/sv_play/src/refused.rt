@@ -2,7 +2,7 @@
 ghost use Rattle.std.specs.Prelude.{◌≡◌, ◌++◌, OnOk, string_bytes};
 ghost use Rattle.sv_play.specs.Refused as spec;
 
-use crate::words::fault_word;
+use crate::faults::fault_word;
 use sv_base::{NoMemory, Span};
 use sv_code::Program;
 use sv_lines::place_of;

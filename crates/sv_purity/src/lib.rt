@@ -3,8 +3,8 @@
 
 mod pure;
 mod scope;
-mod words;
+mod calls;
 
 pub use pure::{first_impurity, is_pure};
 pub use scope::{Known, Scope};
-pub use words::{is_list_call, is_math, is_math_call, is_value_call};
+pub use calls::{is_list_call, is_math, is_math_call, is_value_call};

@@ -10,8 +10,8 @@ use Rattle.sv_base.specs.Names.{Table}
 use Rattle.sv_resolve.specs.declared.refusals.CheckKind.{CheckKind}
 use Rattle.sv_resolve.specs.declared.refusals.CheckKind.TheVariants.{DeclaredTwice, UnknownName, AssignConst, CapturedAssign}
 use Rattle.sv_resolve.specs.declared.refusals.CheckRefusal.{CheckRefusal}
-use Rattle.sv_scopes.specs.declared.words.FileScopes.{FileScopes}
-use Rattle.sv_scopes.specs.declared.words.Scope.{Scope}
+use Rattle.sv_scopes.specs.declared.scope.FileScopes.{FileScopes}
+use Rattle.sv_scopes.specs.declared.scope.Scope.{Scope}
 use Rattle.sv_base.specs.declared.span.Span.{Span}
 use Rattle.sv_resolve.specs.Earliest.{earlier, IsFirst}
 use Rattle.sv_resolve.specs.Mistakes.{refused, all_scopes, declared_twice, unknown_names, constant_assigns, captured_assigns, mistakes}

@@ -6,9 +6,9 @@ use Rattle.sv_ast.specs.declared.names.Ref.{Ref}
 use Rattle.sv_base.specs.Names.{Table}
 use Rattle.sv_names.specs.Distinct.{has, firsts}
 use Rattle.sv_names.proofs.Same.{has-firsts}
-use Rattle.sv_scopes.specs.declared.words.Declared.{Declared}
-use Rattle.sv_scopes.specs.declared.words.Scope.{Scope}
-use Rattle.sv_scopes.specs.declared.words.Use.{Use}
+use Rattle.sv_scopes.specs.declared.scope.Declared.{Declared}
+use Rattle.sv_scopes.specs.declared.scope.Scope.{Scope}
+use Rattle.sv_scopes.specs.declared.scope.Use.{Use}
 use Rattle.sv_scopes.specs.Parts.{names_of, is_tag}
 use Rattle.sv_resolve.specs.Mistakes.{assigns, constants, constant_assigns, captured, captured_assigns, components, is_unbound, is_unknown, unknown_names}
 use Rattle.sv_resolve.specs.Places.{name_place}

@@ -5,12 +5,12 @@ use Rattle.sv_ast.specs.declared.names.Ref.{Ref}
 use Rattle.sv_ast.specs.declared.names.Ref.TheVariants.{Plain, Store}
 use Rattle.sv_names.specs.Distinct.{same_ref, firsts}
 use Rattle.sv_resolve.specs.declared.cells.Scopes.{Scopes}
-use Rattle.sv_scopes.specs.declared.words.Binding.{Binding}
-use Rattle.sv_scopes.specs.declared.words.Binding.TheVariants.{Let, Export, Reactive}
-use Rattle.sv_scopes.specs.declared.words.Declared.{Declared}
-use Rattle.sv_scopes.specs.declared.words.Scope.{Scope}
-use Rattle.sv_scopes.specs.declared.words.TheConstants.{VIEW}
-use Rattle.sv_scopes.specs.declared.words.Use.{Use}
+use Rattle.sv_scopes.specs.declared.scope.Binding.{Binding}
+use Rattle.sv_scopes.specs.declared.scope.Binding.TheVariants.{Let, Export, Reactive}
+use Rattle.sv_scopes.specs.declared.scope.Declared.{Declared}
+use Rattle.sv_scopes.specs.declared.scope.Scope.{Scope}
+use Rattle.sv_scopes.specs.declared.scope.TheConstants.{VIEW}
+use Rattle.sv_scopes.specs.declared.scope.Use.{Use}
 use Rattle.sv_scopes.specs.Parts.{names_of}
 
 abbrev pub is_variable : Binding → Bool

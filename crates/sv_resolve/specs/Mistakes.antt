@@ -13,16 +13,16 @@ use Rattle.sv_resolve.specs.declared.refusals.CheckKind.{CheckKind}
 use Rattle.sv_resolve.specs.declared.refusals.CheckKind.TheVariants.{DeclaredTwice, UnknownName, AssignConst, CapturedAssign}
 use Rattle.sv_resolve.specs.declared.refusals.CheckRefusal.{CheckRefusal}
 use Rattle.sv_resolve.specs.Places.{name_place}
-use Rattle.sv_scopes.specs.declared.words.Binding.{Binding}
-use Rattle.sv_scopes.specs.declared.words.Binding.TheVariants.{Const, Function, Import, Component}
-use Rattle.sv_scopes.specs.declared.words.Declared.{Declared}
-use Rattle.sv_scopes.specs.declared.words.FileScopes.{FileScopes}
-use Rattle.sv_scopes.specs.declared.words.Form.{Form}
-use Rattle.sv_scopes.specs.declared.words.Form.TheVariants.{Read}
-use Rattle.sv_scopes.specs.declared.words.Role.{Role}
-use Rattle.sv_scopes.specs.declared.words.Role.TheVariants.{Called, CalledMember}
-use Rattle.sv_scopes.specs.declared.words.Scope.{Scope}
-use Rattle.sv_scopes.specs.declared.words.Use.{Use}
+use Rattle.sv_scopes.specs.declared.scope.Binding.{Binding}
+use Rattle.sv_scopes.specs.declared.scope.Binding.TheVariants.{Const, Function, Import, Component}
+use Rattle.sv_scopes.specs.declared.scope.Declared.{Declared}
+use Rattle.sv_scopes.specs.declared.scope.FileScopes.{FileScopes}
+use Rattle.sv_scopes.specs.declared.scope.Form.{Form}
+use Rattle.sv_scopes.specs.declared.scope.Form.TheVariants.{Read}
+use Rattle.sv_scopes.specs.declared.scope.Role.{Role}
+use Rattle.sv_scopes.specs.declared.scope.Role.TheVariants.{Called, CalledMember}
+use Rattle.sv_scopes.specs.declared.scope.Scope.{Scope}
+use Rattle.sv_scopes.specs.declared.scope.Use.{Use}
 use Rattle.sv_scopes.specs.Parts.{names_of, is_tag}
 
 -- ---- a name declared twice, or `Math`

@@ -6,10 +6,10 @@ use Rattle.sv_ast.specs.declared.names.Ref.TheVariants.{Plain, Store}
 use Rattle.sv_base.specs.Names.{Table}
 use Rattle.sv_base.specs.declared.names.Name.{Name}
 use Rattle.sv_base.specs.declared.span.Span.{Span}
-use Rattle.sv_scopes.specs.declared.words.Declared.{Declared}
-use Rattle.sv_scopes.specs.declared.words.Form.{Form}
-use Rattle.sv_scopes.specs.declared.words.Form.TheVariants.{BumpedBefore}
-use Rattle.sv_scopes.specs.declared.words.Use.{Use}
+use Rattle.sv_scopes.specs.declared.scope.Declared.{Declared}
+use Rattle.sv_scopes.specs.declared.scope.Form.{Form}
+use Rattle.sv_scopes.specs.declared.scope.Form.TheVariants.{BumpedBefore}
+use Rattle.sv_scopes.specs.declared.scope.Use.{Use}
 
 -- how many bytes a name of a table has
 abbrev pub text_len : Table → Name → ℕ

@@ -2,8 +2,8 @@
 use Rattle.std.specs.Prelude.{◌≡◌, ℕ, ◌<◌, ◌||◌, ◌==◌, List, [], ◌∷◌, ◌++◌, length, Bool, true, false, codes}
 use Rattle.std.specs.List.{list_all}
 use Rattle.std.specs.Char.{is_ascii_alphanumeric}
-use Rattle.sv_run.specs.declared.words.Command.{Command}
-use Rattle.sv_run.specs.declared.words.Command.TheVariants.{Run, Check, Print}
+use Rattle.sv_run.specs.declared.command.Command.{Command}
+use Rattle.sv_run.specs.declared.command.Command.TheVariants.{Run, Check, Print}
 
 -- a letter or digit of ASCII, `_` or `-`
 abbrev pub is_name_byte : ℕ → Bool

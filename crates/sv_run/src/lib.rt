@@ -11,7 +11,7 @@ mod play;
 mod refusals;
 mod status;
 mod top;
-mod words;
+mod command;
 
 pub use laws::one_answer;
 pub use status::Status;

@@ -12,7 +12,7 @@ use crate::job::{Job, Refusal};
 use crate::laws::one_answer;
 use crate::play::decide_run;
 use crate::status::Status;
-use crate::words::{Command, command_of};
+use crate::command::{Command, command_of};
 use std::alloc::Global;
 use sv_io::{Shelf, ShelfError, Sink, SinkError, write_all};
 use sv_play::play;

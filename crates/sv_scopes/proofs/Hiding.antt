@@ -4,7 +4,7 @@ use Rattle.std.specs.Prelude.{not, ◌&&◌}
 use Rattle.sv_ast.specs.declared.names.Ref.{Ref}
 use Rattle.sv_names.specs.Distinct.{has, firsts}
 use Rattle.sv_names.proofs.Same.{has-firsts}
-use Rattle.sv_scopes.specs.declared.words.Use.{Use}
+use Rattle.sv_scopes.specs.declared.scope.Use.{Use}
 use Rattle.sv_scopes.specs.Parts.{is_tag, free, seen, handed}
 
 pub free_firsts : (names : List Ref) (uses : List Use) → free (firsts names) uses ≡ free names uses

@@ -6,7 +6,7 @@ use Rattle.sv_ast.specs.declared.script_tree.Stmt.{Stmt}
 use Rattle.sv_ast.specs.declared.script_tree.StmtKind
 use Rattle.sv_ast.specs.declared.script_tree.StmtKind.{StmtKind as AnyStmt, StmtKind-F, fold-roll-StmtKind}
 use Rattle.sv_scopes.specs.declared.found.Around.{Around}
-use Rattle.sv_scopes.specs.declared.words.Binding.{Binding}
+use Rattle.sv_scopes.specs.declared.scope.Binding.{Binding}
 use Rattle.sv_scopes.specs.Parts.{Parts, Finds, followed, optional, declaring, scope}
 use Rattle.sv_scopes.specs.Script.{InRole, AtPlace, ByBinding, alone, given, declared, for_binding, for_head, for_each, body, entry, expr_kind, field, stmt_kind, arm, decl, expr, link, stmt, expr_parts, stmt_parts, stmt_kind_parts}
 use Rattle.sv_scopes.proofs.Scoping.{finds_two, finds_closed}

@@ -10,9 +10,9 @@ use Rattle.sv_ast.specs.declared.script_tree.Expr.{Expr}
 use Rattle.sv_names.specs.Distinct.{firsts}
 use Rattle.sv_scopes.specs.declared.found.Around.{Around}
 use Rattle.sv_scopes.specs.declared.found.Content.{Content}
-use Rattle.sv_scopes.specs.declared.words.Binding.TheVariants.{Local}
-use Rattle.sv_scopes.specs.declared.words.Declared.{Declared}
-use Rattle.sv_scopes.specs.declared.words.Scope.{Scope}
+use Rattle.sv_scopes.specs.declared.scope.Binding.TheVariants.{Local}
+use Rattle.sv_scopes.specs.declared.scope.Declared.{Declared}
+use Rattle.sv_scopes.specs.declared.scope.Scope.{Scope}
 use Rattle.sv_scopes.specs.Attributes.{attributes, is_slotted, lets}
 use Rattle.sv_scopes.specs.Parts.{Parts, Finds, followed, in_turn, declaring, names_of, scope}
 use Rattle.sv_scopes.specs.Script.{declared, locals, given, expr_parts}

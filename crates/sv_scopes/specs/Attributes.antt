@@ -13,10 +13,10 @@ use Rattle.sv_ast.specs.declared.names.Ref.TheVariants.{Plain}
 use Rattle.sv_ast.specs.declared.script_tree.ExprKind.{ExprKind-F, out-ExprKind}
 use Rattle.sv_base.specs.declared.names.Name.{Name}
 use Rattle.sv_base.specs.declared.span.Span.{Span}
-use Rattle.sv_scopes.specs.declared.words.Binding.TheVariants.{Local}
-use Rattle.sv_scopes.specs.declared.words.Declared.{Declared}
-use Rattle.sv_scopes.specs.declared.words.Form.TheVariants.{Read}
-use Rattle.sv_scopes.specs.declared.words.Role.TheVariants.{Alone}
+use Rattle.sv_scopes.specs.declared.scope.Binding.TheVariants.{Local}
+use Rattle.sv_scopes.specs.declared.scope.Declared.{Declared}
+use Rattle.sv_scopes.specs.declared.scope.Form.TheVariants.{Read}
+use Rattle.sv_scopes.specs.declared.scope.Role.TheVariants.{Alone}
 use Rattle.sv_scopes.specs.Parts.{Parts, nothing, in_turn, using_name}
 use Rattle.sv_scopes.specs.Script.{use_of, alone, expr_parts, Layer}
 

@@ -12,10 +12,10 @@ use Rattle.sv_ast.specs.declared.script_tree.Stmt.{Stmt}
 use Rattle.sv_ast.specs.declared.script_tree.StmtKind.{StmtKind-F, out-StmtKind}
 use Rattle.sv_base.specs.declared.span.Span.{Span}
 use Rattle.sv_names.specs.Distinct.{has, with_name, firsts}
-use Rattle.sv_scopes.specs.declared.words.Binding.{Binding}
-use Rattle.sv_scopes.specs.declared.words.Binding.TheVariants.{Reactive}
-use Rattle.sv_scopes.specs.declared.words.Declared.{Declared}
-use Rattle.sv_scopes.specs.declared.words.FileScopes.{FileScopes}
+use Rattle.sv_scopes.specs.declared.scope.Binding.{Binding}
+use Rattle.sv_scopes.specs.declared.scope.Binding.TheVariants.{Reactive}
+use Rattle.sv_scopes.specs.declared.scope.Declared.{Declared}
+use Rattle.sv_scopes.specs.declared.scope.FileScopes.{FileScopes}
 use Rattle.sv_scopes.specs.Markup.{node, nodes}
 use Rattle.sv_scopes.specs.Parts.{Parts, followed, in_turn, declaring, names_of}
 use Rattle.sv_scopes.specs.Script.{Layer, StmtLayer, stmt_parts}

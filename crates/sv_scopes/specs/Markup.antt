@@ -12,11 +12,11 @@ use Rattle.sv_ast.specs.declared.names.Ref.TheVariants.{Plain}
 use Rattle.sv_ast.specs.declared.script_tree.Expr.{Expr}
 use Rattle.sv_base.specs.declared.names.Name.{Name}
 use Rattle.sv_base.specs.declared.span.Span.{Span}
-use Rattle.sv_scopes.specs.declared.words.Declared.{Declared}
-use Rattle.sv_scopes.specs.declared.words.Form.TheVariants.{Read}
-use Rattle.sv_scopes.specs.declared.words.Role.TheVariants.{Tag}
-use Rattle.sv_scopes.specs.declared.words.TheConstants.{VIEW}
-use Rattle.sv_scopes.specs.declared.words.Use.{Use}
+use Rattle.sv_scopes.specs.declared.scope.Declared.{Declared}
+use Rattle.sv_scopes.specs.declared.scope.Form.TheVariants.{Read}
+use Rattle.sv_scopes.specs.declared.scope.Role.TheVariants.{Tag}
+use Rattle.sv_scopes.specs.declared.scope.TheConstants.{VIEW}
+use Rattle.sv_scopes.specs.declared.scope.Use.{Use}
 use Rattle.sv_scopes.specs.Attributes.{past, reading, attributes, is_slotted, lets}
 use Rattle.sv_scopes.specs.Parts.{Parts, nothing, followed, in_turn, optional, using_name, declaring, names_of, handed, scope}
 use Rattle.sv_scopes.specs.Script.{use_of, alone, given, locals, expr_parts}

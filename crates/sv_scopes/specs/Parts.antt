@@ -4,11 +4,11 @@ use Rattle.std.specs.Prelude.{◌≡◌, Bool, true, false, not, ◌&&◌, ◌||
 use Rattle.sv_ast.specs.declared.names.Ref.{Ref}
 use Rattle.sv_ast.specs.declared.names.Ref.TheVariants.{Plain}
 use Rattle.sv_names.specs.Distinct.{has}
-use Rattle.sv_scopes.specs.declared.words.Declared.{Declared}
-use Rattle.sv_scopes.specs.declared.words.Role.{Role}
-use Rattle.sv_scopes.specs.declared.words.Role.TheVariants.{Tag}
-use Rattle.sv_scopes.specs.declared.words.Scope.{Scope}
-use Rattle.sv_scopes.specs.declared.words.Use.{Use}
+use Rattle.sv_scopes.specs.declared.scope.Declared.{Declared}
+use Rattle.sv_scopes.specs.declared.scope.Role.{Role}
+use Rattle.sv_scopes.specs.declared.scope.Role.TheVariants.{Tag}
+use Rattle.sv_scopes.specs.declared.scope.Scope.{Scope}
+use Rattle.sv_scopes.specs.declared.scope.Use.{Use}
 
 -- what a part declares in the scope round it, what is used there that no scope inside declares, and the scopes inside
 pub record Parts : Type 0 where

@@ -17,14 +17,14 @@ use Rattle.sv_ast.specs.declared.script_tree.StmtKind.{StmtKind, StmtKind-F, fol
 use Rattle.sv_ast.specs.declared.script_tree.Import.{Import}
 use Rattle.sv_base.specs.declared.names.Name.{Name}
 use Rattle.sv_base.specs.declared.span.Span.{Span}
-use Rattle.sv_scopes.specs.declared.words.Binding.{Binding}
-use Rattle.sv_scopes.specs.declared.words.Binding.TheVariants as by
-use Rattle.sv_scopes.specs.declared.words.Declared.{Declared}
-use Rattle.sv_scopes.specs.declared.words.Form.{Form}
-use Rattle.sv_scopes.specs.declared.words.Form.TheVariants as form
-use Rattle.sv_scopes.specs.declared.words.Role.{Role}
-use Rattle.sv_scopes.specs.declared.words.Role.TheVariants as role
-use Rattle.sv_scopes.specs.declared.words.Use.{Use}
+use Rattle.sv_scopes.specs.declared.scope.Binding.{Binding}
+use Rattle.sv_scopes.specs.declared.scope.Binding.TheVariants as by
+use Rattle.sv_scopes.specs.declared.scope.Declared.{Declared}
+use Rattle.sv_scopes.specs.declared.scope.Form.{Form}
+use Rattle.sv_scopes.specs.declared.scope.Form.TheVariants as form
+use Rattle.sv_scopes.specs.declared.scope.Role.{Role}
+use Rattle.sv_scopes.specs.declared.scope.Role.TheVariants as role
+use Rattle.sv_scopes.specs.declared.scope.Use.{Use}
 use Rattle.sv_scopes.specs.Parts.{Parts, nothing, followed, in_turn, optional, using_name, declaring, scope, arrow}
 
 -- what is found in an expression, by the role that it stands in

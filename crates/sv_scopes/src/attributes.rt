@@ -6,7 +6,7 @@ ghost use Rattle.sv_scopes.specs.Attributes as spec;
 
 use crate::found::Found;
 use crate::script::{find, use_of};
-use crate::words::{Binding, Declared, Form, Role};
+use crate::scope::{Binding, Declared, Form, Role};
 use sv_ast::{AttrKind, AttrPart, AttrValue, ExprKind, Ref, TagAttr};
 use sv_base::{Name, NoMemory, Span};
 

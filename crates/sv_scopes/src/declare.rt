@@ -5,8 +5,8 @@ ghost use Rattle.sv_scopes.specs.Parts.{Finds, declaring};
 ghost use Rattle.sv_scopes.specs.Script.{declared, locals, imported};
 
 use crate::found::Found;
-use crate::words::{Binding, Declared};
-use sv_ast::{Import, Named, Spec};
+use crate::scope::{Binding, Declared};
+use sv_ast::{Import, Named, ImportName};
 use sv_base::NoMemory;
 
 /// Notes that a name is declared.
@@ -50,7 +50,7 @@ pub(crate) fn declare_import(found: &mut Found, import: &Import) -> Result<(), N
     declare_specs(found, import.specs.as_slice())
 }
 
-fn declare_specs(found: &mut Found, specs: &[Spec]) -> Result<(), NoMemory>
+fn declare_specs(found: &mut Found, specs: &[ImportName]) -> Result<(), NoMemory>
     ensures { OnOk result (Finds found.old found.new (declaring (map (λ spec. declared Binding.Import spec.local) specs.now))) }
 {
     for spec in specs {

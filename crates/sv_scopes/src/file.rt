@@ -7,7 +7,7 @@ ghost use Rattle.sv_scopes.specs.Parts.{Finds, declaring, names_of};
 use crate::found::Found;
 use crate::markup::find_nodes;
 use crate::script::find_stmt;
-use crate::words::{Binding, Declared, FileScopes};
+use crate::scope::{Binding, Declared, FileScopes};
 use std::alloc::Global;
 use sv_ast::{AssignOp, Component, ExprKind, Markup, Ref, Script, Stmt, StmtKind};
 use sv_base::{NoMemory, Span};

@@ -5,7 +5,7 @@ ghost use Rattle.sv_scopes.specs.Files.{file};
 ghost use Rattle.sv_scopes.specs.Parts.{Finds, nothing, using_name, declaring, names_of, is_tag, is_of, handed, closed};
 
 use crate::top::settle;
-use crate::words::{Declared, FileScopes, Role, Scope, Use};
+use crate::scope::{Declared, FileScopes, Role, Scope, Use};
 use std::alloc::Global;
 use std::marker::Model;
 use std::mem;

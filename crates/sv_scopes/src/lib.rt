@@ -9,9 +9,9 @@ mod local_names;
 mod markup;
 mod script;
 mod top;
-mod words;
+mod scope;
 
 pub use attributes::is_slotted;
 pub use file::{scopes_of_component, scopes_of_module};
 pub use local_names::{let_names, row_names};
-pub use words::{Binding, Declared, FileScopes, Form, Role, Scope, Use, VIEW};
+pub use scope::{Binding, Declared, FileScopes, Form, Role, Scope, Use, VIEW};

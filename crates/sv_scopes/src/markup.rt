@@ -9,7 +9,7 @@ use crate::attributes::{declare_lets, find_attributes, is_slotted, note_read, pa
 use crate::declare::{declare, declare_index};
 use crate::found::{Content, Found};
 use crate::script::{find, find_given, use_of};
-use crate::words::{Binding, Form, Role, VIEW};
+use crate::scope::{Binding, Form, Role, VIEW};
 use sv_ast::{Branch, Expr, Markup, Named, Ref, TagAttr};
 use sv_base::{Name, NoMemory, Span};
 

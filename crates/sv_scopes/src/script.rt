@@ -5,7 +5,7 @@ ghost use Rattle.sv_scopes.specs.Script as spec;
 
 use crate::declare::{declare, declare_all, declare_import};
 use crate::found::Found;
-use crate::words::{Binding, Form, Role, Use};
+use crate::scope::{Binding, Form, Role, Use};
 use sv_ast::{Arm, Body, Decl, Entry, Expr, ExprKind, Field, Link, Named, Ref, Stmt, StmtKind};
 use sv_base::{Name, NoMemory, Span};
 

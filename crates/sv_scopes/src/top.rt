@@ -4,7 +4,7 @@ ghost use Rattle.sv_names.specs.Distinct.{firsts};
 ghost use Rattle.sv_scopes.specs.Files as spec;
 ghost use Rattle.sv_scopes.specs.Parts.{names_of};
 
-use crate::words::{Binding, Declared};
+use crate::scope::{Binding, Declared};
 use std::alloc::Global;
 use sv_ast::Ref;
 use sv_base::NoMemory;

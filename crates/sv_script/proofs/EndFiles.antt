@@ -3,7 +3,7 @@ use Rattle.std.proofs.Common.{◌≡◌, ◌≤◌, inl, ℕ, Bool, true, false,
 use Rattle.std.specs.Prelude.{Ok, codes}
 use Rattle.sv_ast.specs.declared.refusals.Refused.{Refused}
 use Rattle.sv_ast.specs.declared.script_tree.Decl.{Decl}
-use Rattle.sv_ast.specs.declared.script_tree.Spec.{Spec}
+use Rattle.sv_ast.specs.declared.script_tree.ImportName.{ImportName}
 use Rattle.sv_ast.specs.declared.script_tree.Stmt.{Stmt}
 use Rattle.sv_ast.specs.declared.script_tree.StmtKind.TheVariants as s
 use Rattle.sv_lex.specs.declared.lexeme.Lexeme.{Lexeme}
@@ -30,17 +30,17 @@ use Rattle.sv_script.proofs.Ways.{known_moves}
 module _ (P : Refused → Type 0) where
   -- ---- imports
 
-  known_ends : {i o : Input} {x : Spec} → g.Known i x o → Ends P (import_name i) (x, o)
+  known_ends : {i o : Input} {x : ImportName} → g.Known i x o → Ends P (import_name i) (x, o)
   unfolding import_name known_as
   known_ends (g.known_same {o = o} n w) = ends_then P _ _ (inl n.gives) (rw (misspelled (spelling o) (codes "as") w) (inl refl))
   known_ends (g.known_as {j = j} n w m) = ends_then P _ _ (inl n.gives) (rw (spelled (spelling j) (codes "as") w) (ends_then P _ _ (inl m.gives) (inl refl)))
 
   -- a name comes first
-  known_comes : {i o : Input} {x : Spec} → g.Known i x o → sees i ≡ k.Name
+  known_comes : {i o : Input} {x : ImportName} → g.Known i x o → sees i ≡ k.Name
   known_comes (g.known_same n w) = n.is
   known_comes (g.known_as n w m) = n.is
 
-  specs_end : {i o : Input} {xs : List Spec} → g.Specs i xs o → (n : ℕ) (found : List Spec) → left i ≤ n → Ends P (listed_from import_name k.RBrace n found i) (found ++ xs, o)
+  specs_end : {i o : Input} {xs : List ImportName} → g.ImportNames i xs o → (n : ℕ) (found : List ImportName) → left i ≤ n → Ends P (listed_from import_name k.RBrace n found i) (found ++ xs, o)
   specs_end (g.specs_end {i = i} h) n found le = end_ends P import_name k.RBrace n found i le (λ e. cc) h
   specs_end (g.specs_last {i = i} {j = j} x c) n found le =
       let named = known_comes x in

@@ -31,7 +31,7 @@ import_name_holds i = holds_name (g.Known i) i _ (λ given j n. holds_if (g.Know
     (λ e. holds_name (g.Known i) (next j) _ (λ local o m. g.known_as n (written (spelling j) (codes "as") e) m))
     (λ e. g.known_same n (unwritten (spelling j) (codes "as") e)))
 
-all_specs : IsList k.RBrace g.Known g.Specs
+all_specs : IsList k.RBrace g.Known g.ImportNames
 all_specs = record {
   ends = λ i h. g.specs_end h;
   last = λ i j x p h. g.specs_last p h;
@@ -52,7 +52,7 @@ unfolding import_statement import_names import_whole
 import_holds i h =
     let Q = g.Imports i in
     holds_if Q (sees_one k.LBrace (next i)) _ _
-    (λ e. holds_then (g.Specs (next (next i))) Q (listed import_name k.RBrace (next (next i))) _ (listed_holds import_name k.RBrace g.Known g.Specs all_specs import_name_holds (next (next i)))
+    (λ e. holds_then (g.ImportNames (next (next i))) Q (listed import_name k.RBrace (next (next i))) _ (listed_holds import_name k.RBrace g.Known g.ImportNames all_specs import_name_holds (next (next i)))
     (λ found j m. holds_then (g.Origin false j) Q (origin false j) _ (origin_holds false j) (λ text o s. g.import_names h (seen k.LBrace (next i) e) m s)))
     (λ e. holds_name Q (next i) _ (λ found j n. holds_then (g.Origin true j) Q (origin true j) _ (origin_holds true j) (λ text o s. g.import_whole h n s)))
 

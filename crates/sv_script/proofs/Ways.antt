@@ -5,7 +5,7 @@ use Rattle.sv_ast.specs.declared.names.Named.{Named}
 use Rattle.sv_ast.specs.declared.script_tree.Arm.{Arm}
 use Rattle.sv_ast.specs.declared.script_tree.Decl.{Decl}
 use Rattle.sv_ast.specs.declared.script_tree.Expr.{Expr}
-use Rattle.sv_ast.specs.declared.script_tree.Spec.{Spec}
+use Rattle.sv_ast.specs.declared.script_tree.ImportName.{ImportName}
 use Rattle.sv_ast.specs.declared.script_tree.Stmt.{Stmt}
 use Rattle.sv_lex.specs.declared.lexeme.Lexeme.{Lexeme}
 use Rattle.sv_lex.specs.declared.lexeme.Lexeme.TheVariants as k
@@ -127,11 +127,11 @@ module _ {Way Move : Input → Input → Type 0} (is : IsWay Way Move) where
 
   -- ---- imports
 
-  pub known_moves : {i o : Input} {x : Spec} → g.Known i x o → Move i o
+  pub known_moves : {i o : Input} {x : ImportName} → g.Known i x o → Move i o
   known_moves (g.known_same n w) = named_moves n
   known_moves (g.known_as {j = j} n w m) = is.on (named_moves n) (is.along (step is j) (is.weaker (named_moves m)))
 
-  specs_way : {i o : Input} {xs : List Spec} → g.Specs i xs o → Way i o
+  specs_way : {i o : Input} {xs : List ImportName} → g.ImportNames i xs o → Way i o
   specs_way (g.specs_end {i = i} h) = step is i
   specs_way (g.specs_last {j = j} p c) = is.along (is.weaker (known_moves p)) (step is j)
   specs_way (g.specs_more {j = j} p c rest) = is.along (is.weaker (known_moves p)) (is.along (step is j) (specs_way rest))

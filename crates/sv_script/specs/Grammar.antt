@@ -4,7 +4,7 @@ use Rattle.sv_ast.specs.declared.names.Named.{Named}
 use Rattle.sv_ast.specs.declared.script_tree.Arm.{Arm}
 use Rattle.sv_ast.specs.declared.script_tree.Decl.{Decl}
 use Rattle.sv_ast.specs.declared.script_tree.Expr.{Expr}
-use Rattle.sv_ast.specs.declared.script_tree.Spec.{Spec}
+use Rattle.sv_ast.specs.declared.script_tree.ImportName.{ImportName}
 use Rattle.sv_ast.specs.declared.script_tree.Stmt.{Stmt}
 use Rattle.sv_ast.specs.declared.script_tree.StmtKind.TheVariants as s
 use Rattle.sv_lex.specs.declared.lexeme.Lexeme.{Lexeme}
@@ -191,26 +191,26 @@ module _ (limits : Limits) (block : ℕ → Parser (List Stmt)) where
 -- ---- imports
 
 -- Name [ 'as' Name ]
-pub data Known : Input → Spec → Input → Type 0 where
+pub data Known : Input → ImportName → Input → Type 0 where
   known_same : {i o : Input} {found : Named} → IsName i found o → spelling o ≢ codes "as" → Known i (spec found found) o
   known_as : {i j o : Input} {given local : Named} → IsName i given j → spelling j ≡ codes "as" → IsName (next j) local o → Known i (spec given local) o
 
--- [ Spec { ',' Spec } [ ',' ] ] '}'
-pub data Specs : Input → List Spec → Input → Type 0 where
-  specs_end : {i : Input} → sees i ≡ k.RBrace → Specs i [] (next i)
-  specs_last : {i j : Input} {x : Spec} → Known i x j → sees j ≡ k.RBrace → Specs i (x ∷ []) (next j)
-  specs_more : {i j o : Input} {x : Spec} {xs : List Spec} → Known i x j → sees j ≡ k.Comma → Specs (next j) xs o → Specs i (x ∷ xs) o
+-- [ ImportName { ',' ImportName } [ ',' ] ] '}'
+pub data ImportNames : Input → List ImportName → Input → Type 0 where
+  specs_end : {i : Input} → sees i ≡ k.RBrace → ImportNames i [] (next i)
+  specs_last : {i j : Input} {x : ImportName} → Known i x j → sees j ≡ k.RBrace → ImportNames i (x ∷ []) (next j)
+  specs_more : {i j o : Input} {x : ImportName} {xs : List ImportName} → Known i x j → sees j ≡ k.Comma → ImportNames (next j) xs o → ImportNames i (x ∷ xs) o
 
 -- 'from' String End, where the string may be named
 pub data Origin (is_whole : Bool) : Input → List ℕ → Input → Type 0 where
   origin : {i j o : Input} {text : List ℕ} → spelling i ≡ codes "from" → sees (next i) ≡ k.Quoted → string (next i) ≡ Ok (text, j) → is_source is_whole text ≡ true
       → End j o → Origin is_whole i text o
 
--- 'import' ( Name | '{' Specs ) Origin
+-- 'import' ( Name | '{' ImportNames ) Origin
 pub data Imports : Input → Stmt → Input → Type 0 where
   import_whole : {i j o : Input} {found : Named} {text : List ℕ} → sees i ≡ k.Import → IsName (next i) found j → Origin true j text o
       → Imports i (form i o (s.Import (record { from = text; whole = Some found; specs = [] }))) o
-  import_names : {i j o : Input} {found : List Spec} {text : List ℕ} → sees i ≡ k.Import → sees (next i) ≡ k.LBrace → Specs (next (next i)) found j → Origin false j text o
+  import_names : {i j o : Input} {found : List ImportName} {text : List ℕ} → sees i ≡ k.Import → sees (next i) ≡ k.LBrace → ImportNames (next (next i)) found j → Origin false j text o
       → Imports i (form i o (s.Import (record { from = text; whole = None; specs = found }))) o
 
 -- ---- files

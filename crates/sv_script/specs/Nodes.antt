@@ -5,7 +5,7 @@ use Rattle.sv_ast.specs.declared.names.Named.{Named}
 use Rattle.sv_ast.specs.declared.script_tree.Arm.{Arm}
 use Rattle.sv_ast.specs.declared.script_tree.Decl.{Decl, roll-Decl}
 use Rattle.sv_ast.specs.declared.script_tree.Expr.{Expr}
-use Rattle.sv_ast.specs.declared.script_tree.Spec.{Spec}
+use Rattle.sv_ast.specs.declared.script_tree.ImportName.{ImportName}
 use Rattle.sv_ast.specs.declared.script_tree.Stmt.{Stmt}
 use Rattle.sv_ast.specs.declared.script_tree.StmtKind.{StmtKind}
 use Rattle.sv_lex.specs.Reader.{Input, start, span_from}
@@ -23,5 +23,5 @@ decl name first = roll-Decl (record { name = name; first = first })
 abbrev pub arm : Expr → Stmt → Arm
 arm test body = record { test = test; body = body }
 
-abbrev pub spec : Named → Named → Spec
+abbrev pub spec : Named → Named → ImportName
 spec given local = record { given = given; local = local }

@@ -4,7 +4,7 @@ use Rattle.std.specs.Str.{bytes_eq}
 use Rattle.sv_ast.specs.declared.names.Named.{Named}
 use Rattle.sv_ast.specs.declared.refusals.Kind.TheVariants.{Syntax, TooDeep}
 use Rattle.sv_ast.specs.declared.script_tree.Expr.{Expr}
-use Rattle.sv_ast.specs.declared.script_tree.Spec.{Spec}
+use Rattle.sv_ast.specs.declared.script_tree.ImportName.{ImportName}
 use Rattle.sv_ast.specs.declared.script_tree.Stmt.{Stmt}
 use Rattle.sv_ast.specs.declared.script_tree.StmtKind.TheVariants as s
 use Rattle.sv_lex.specs.declared.lexeme.Lexeme.{Lexeme}
@@ -24,11 +24,11 @@ use Rattle.sv_script.specs.Rules.{Bodies, word_as, statement, item, braced, vari
 -- ---- imports
 
 -- the name by which the file knows what is given, behind that name
-unfoldable pub known_as : Named → Parser Spec
+unfoldable pub known_as : Named → Parser ImportName
 known_as given = λ i. if bytes_eq (spelling i) (codes "as")
     then (take_token >> (name >>= (λ local. pure (spec given local)))) i else Ok (spec given given, i)
 
-unfoldable pub import_name : Parser Spec
+unfoldable pub import_name : Parser ImportName
 import_name = name >>= known_as
 
 -- the file that is named, or a part of the language; another string is refused as a whole

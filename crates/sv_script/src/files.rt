@@ -3,7 +3,7 @@ ghost use Rattle.std.specs.Prelude.{◌≡◌};
 ghost use Rattle.std.specs.List.{list_any};
 ghost use Rattle.sv_script.specs.Files as spec;
 
-use crate::words::same_text;
+use crate::contextual::same_text;
 use sv_base::built_in::{LIFE_MODULE, STORE_MODULE};
 
 fn is_other_byte(b: u8) -> bool

@@ -3,30 +3,30 @@ ghost use Rattle.sv_lex.specs.Reader.{Reads};
 ghost use Rattle.sv_script.specs.Script as spec;
 
 use crate::files::is_source;
-use crate::words::{is_written, word_as};
+use crate::contextual::{is_written, word_as};
 use std::alloc::Global;
-use sv_ast::{Import, Kind, Named, ParseError, Spec, Specs, Stmt, StmtKind};
+use sv_ast::{Import, Kind, Named, ParseError, ImportName, ImportNames, Stmt, StmtKind};
 use sv_base::Text;
 use sv_expr::listed;
 use sv_lex::{Lexeme, Tokens};
 
 #[tactic(auto, unfolding(crate::specs::Script::known_as))]
-fn known_as(tokens: &mut Tokens<'_>, given: Named) -> Result<Spec, ParseError>
+fn known_as(tokens: &mut Tokens<'_>, given: Named) -> Result<ImportName, ParseError>
     ensures { Reads (spec.known_as given tokens.old) result tokens.new }
 {
     if !is_written(tokens, "as") {
-        return Ok(Spec {
+        return Ok(ImportName {
             given,
             local: given,
         });
     }
     tokens.take();
     let local = tokens.name()?;
-    Ok(Spec { given, local })
+    Ok(ImportName { given, local })
 }
 
 #[tactic(auto, unfolding(crate::specs::Script::import_name))]
-fn import_name(tokens: &mut Tokens<'_>) -> Result<Spec, ParseError>
+fn import_name(tokens: &mut Tokens<'_>) -> Result<ImportName, ParseError>
     ensures { Reads (spec.import_name tokens.old) result tokens.new }
 {
     let given = tokens.name()?;
@@ -70,7 +70,7 @@ fn import_whole(alloc: Global, tokens: &mut Tokens<'_>, from: u32) -> Result<Stm
     let kind = StmtKind::Import(Import {
         from: text,
         whole,
-        specs: Specs::new(alloc),
+        specs: ImportNames::new(alloc),
     });
     Ok(Stmt::new(alloc, tokens.span_from(from), kind)?)
 }

@@ -14,7 +14,7 @@ mod loops;
 mod place;
 mod statements;
 mod top;
-mod words;
+mod contextual;
 
 pub use calls::{parse_expr, parse_expr_in, parse_module_script, parse_script};
 pub use knot::{component, expression};

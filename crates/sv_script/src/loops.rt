@@ -9,7 +9,7 @@ ghost use Rattle.sv_script.specs.Script.{bodies};
 use crate::leaves::begins_each;
 use crate::place::Place;
 use crate::statements::Statements;
-use crate::words::word_as;
+use crate::contextual::word_as;
 use std::alloc::Global;
 use sv_ast::{Expr, ParseError, Stmt, StmtKind, Stmts};
 use sv_expr::Form;

@@ -5,7 +5,7 @@ ghost use Rattle.sv_sites.specs.Attributes as spec;
 ghost use Rattle.sv_sites.specs.Hidden.{all_hidden};
 
 use crate::hidden::{Hidden, is_hidden};
-use crate::words::literal;
+use crate::texts::literal;
 use sv_ast::{AttrKind, AttrPart, AttrValue, ExprKind, Ref, TagAttr};
 
 /// The text of a tag's `slot` attribute, where it has one.

@@ -4,7 +4,7 @@ ghost use Rattle.sv_sites.specs.Sites as spec;
 
 use crate::attributes::slot_of;
 use crate::site::{Site, Sites};
-use crate::words::is_blank;
+use crate::texts::is_blank;
 use std::alloc::Global;
 use sv_ast::Markup;
 use sv_base::{Name, Names, NoMemory, Span, Text};

@@ -7,7 +7,7 @@ mod hidden;
 mod site;
 mod tags;
 mod walk;
-mod words;
+mod texts;
 
 pub use content::is_given;
 pub use site::{Site, Sites};

@@ -8,7 +8,7 @@ use crate::attributes::target;
 use crate::content::add_contents;
 use crate::hidden::Hidden;
 use crate::site::{Site, Sites};
-use crate::words::{input_type, may_bind};
+use crate::texts::{input_type, may_bind};
 use std::alloc::Global;
 use sv_ast::{AttrKind, Markup, TagAttr};
 use sv_base::{Name, Names, NoMemory};

@@ -5,7 +5,7 @@ use Rattle.sv_ast.specs.declared.names.Ref.{Ref}
 use Rattle.sv_ast.specs.declared.names.Ref.TheVariants.{Plain, Store}
 use Rattle.sv_base.specs.declared.span.Span.{Span}
 use Rattle.sv_names.specs.Distinct.{same_ref, has}
-use Rattle.sv_scopes.specs.declared.words.TheConstants.{VIEW}
+use Rattle.sv_scopes.specs.declared.scope.TheConstants.{VIEW}
 use Rattle.sv_sites.specs.declared.site.Site.{Site}
 use Rattle.sv_sites.specs.declared.site.Site.TheVariants as site
 use Rattle.sv_slots.specs.declared.sheets.Sheet.{Sheet}

@@ -1,5 +1,5 @@
 use Rattle.std.proofs.Common.{map, drop}
-use Rattle.sv_scopes.specs.declared.words.Binding.TheVariants.{Import}
+use Rattle.sv_scopes.specs.declared.scope.Binding.TheVariants.{Import}
 use Rattle.sv_scopes.specs.Parts.{declaring}
 use Rattle.sv_scopes.specs.Script.{declared}
 use Rattle.sv_scopes.proofs.Leaving.{Leaves}

@@ -1,0 +1,42 @@
+-- Stained bodies and callers, as tables tell them.
+use Rattle.std.specs.Prelude.{◌≡◌, ℕ, suc, ◌||◌, not, Bool, true, List, [], ◌∷◌, ◌++◌, Some, is_some, length, slice_get, slice_index_or, if◌then◌else◌}
+use Rattle.std.specs.List.{filter_map}
+use Rattle.sv_ast.specs.declared.files.Bundle.{Bundle}
+use Rattle.sv_ast.specs.declared.names.Ref.TheVariants.{Plain, Store}
+use Rattle.sv_base.specs.Names.{Table}
+use Rattle.sv_effects.specs.declared.functions.Function.{Function}
+use Rattle.sv_effects.specs.declared.notes.Sign.{Sign}
+use Rattle.sv_effects.specs.declared.notes.Sign.TheVariants.{Reads, Sets, Calls, Hands, Breaks}
+use Rattle.sv_effects.specs.declared.stains.Calls.{Calls as Found}
+use Rattle.sv_effects.specs.declared.top.Top.{Top}
+use Rattle.sv_effects.specs.Functions.{functions}
+use Rattle.sv_effects.specs.Known.{Points, point_in}
+use Rattle.sv_effects.specs.Stains.{is_stained, called, calls}
+use Rattle.sv_effects.specs.Top.{is_variable_in, is_free_in}
+use Rattle.sv_graph.specs.Links.{is_in, links_of}
+
+-- a sign stains a body where the top level and the known functions are these
+abbrev pub is_stain_in : Table → Top → Points → Sign → Bool
+is_stain_in table top points (Reads (Store name)) = true
+is_stain_in table top points (Reads (Plain name)) = is_variable_in top (Plain name)
+is_stain_in table top points (Sets name) = true
+is_stain_in table top points (Calls name) = not (is_some (point_in points name) || is_free_in table top name)
+is_stain_in table top points (Hands name) = not (is_some (point_in points name))
+is_stain_in table top points Breaks = true
+
+-- the numbers of those of some functions that pass a test, where the first has a number
+abbrev pub points_from : (Function → Bool) → ℕ → List Function → List ℕ
+points_from test p [] = []
+points_from test p (f ∷ fs) = (if test f then p ∷ [] else []) ++ points_from test (suc p) fs
+
+-- the functions that a body calls, where these are known in the files
+abbrev pub calls_in : List Points → Function → List ℕ
+calls_in known f = filter_map (called (slice_index_or known f.file [])) f.signs
+
+-- the functions with stained bodies, and for each function its callers
+pub record AreCalls (bundle : Bundle) (found : Found) : Type 0 where
+  pub size : length found.callers.items ≡ length (functions bundle)
+  pub stained : (p : ℕ) (f : Function) → slice_get (functions bundle) p ≡ Some f → is_in p found.stained.items ≡ is_stained bundle f
+  pub stained_within : (p : ℕ) → is_in p found.stained.items ≡ true → is_some (slice_get (functions bundle) p) ≡ true
+  pub callers : (p q : ℕ) (f : Function) → slice_get (functions bundle) p ≡ Some f → is_in p (links_of found.callers.items q) ≡ is_in q (calls bundle f)
+  pub callers_within : (p q : ℕ) → is_in p (links_of found.callers.items q) ≡ true → is_some (slice_get (functions bundle) p) ≡ true

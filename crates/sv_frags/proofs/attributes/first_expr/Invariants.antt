@@ -1,6 +1,0 @@
-use Rattle.std.proofs.Common.{◌≡◌, drop}
-use Rattle.sv_frags.specs.Attributes.{first_expr}
-use Rattle.sv_frags.proofs.attributes.first_expr.Given as goal
-
-abbrev pub invariant-loop-part : goal.invariant-loop-part
-invariant-loop-part l = first_expr l.parts ≡ first_expr (drop l.part-index l.parts)

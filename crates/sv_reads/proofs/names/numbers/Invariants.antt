@@ -1,6 +1,0 @@
-use Rattle.std.proofs.Common.{◌≡◌, ◌++◌, drop}
-use Rattle.sv_reads.specs.Reading.{numbers, numbers_from}
-use Rattle.sv_reads.proofs.names.numbers.Given as goal
-
-abbrev pub invariant-loop-n : goal.invariant-loop-n
-invariant-loop-n l = numbers l.cells l.names ≡ l.numbers ++ numbers_from l.n (drop l.n l.cells) l.names

@@ -1,6 +1,0 @@
-use Rattle.std.proofs.Common.{◌≡◌, drop}
-use Rattle.sv_stains.specs.Known.{with_points, imported}
-use Rattle.sv_stains.proofs.known.add_imports.Given as goal
-
-abbrev pub invariant-loop-stmt : goal.invariant-loop-stmt
-invariant-loop-stmt l = with_points l.fn.known (imported l.files l.given l.stmts) ≡ with_points l.known (imported l.files l.given (drop l.stmt-index l.stmts))

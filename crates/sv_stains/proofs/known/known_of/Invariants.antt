@@ -1,5 +1,0 @@
-use Rattle.sv_stains.proofs.Owning.{AreKnown}
-use Rattle.sv_stains.proofs.known.known_of.Given as goal
-
-abbrev pub invariant-loop-file : goal.invariant-loop-file
-invariant-loop-file l = AreKnown l.bundle l.file l.known.items

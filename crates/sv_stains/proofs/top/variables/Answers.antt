@@ -1,7 +1,0 @@
-use Rattle.std.proofs.Common.{◌∙◌}
-use Rattle.sv_stains.specs.Top.{stmt_variables}
-use Rattle.sv_stains.proofs.Topping.{names_more}
-use Rattle.sv_stains.proofs.top.variables.Goals as goal
-
-pub loop-stmt-preserved : goal.loop-stmt-preserved
-loop-stmt-preserved c = c.loop-stmt.invariant ∙ names_more stmt_variables _ _ c.args.stmts.now c.loop-stmt.stmt-index c.stmt-item.result c.loop-stmt-test.true c.stmt-item.is c.in_ok-add_variables.ensures
