@@ -1,4 +1,4 @@
-//! The words that every crate shares: names, numbers, shared texts, spans, want of memory, the limits, and what files may use
+//! The words that every crate shares: names, numbers, shared texts, spans, `NoMemory`, the limits, and what files may use
 //! without declaring it.
 #![tactic(auto)]
 

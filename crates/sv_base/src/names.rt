@@ -94,7 +94,7 @@ impl Names {
         self.texts.len() as u32
     }
 
-    /// Adds the names of `more` behind its own, with which they are still a table. On want of memory some may have been
+    /// Adds the names of `more` behind its own, with which they are still a table. Where memory runs out, some may have been
     /// added.
     pub fn append(&mut self, more: &Names) -> Result<(), NoMemory>
         requires { IsTable (self.old ++ more.now) }

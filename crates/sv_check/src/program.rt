@@ -14,7 +14,7 @@ use sv_resolve::CheckError;
 
 /// Looks for the mistakes of a program: its files, in the order in which they were read with the names of the bundle. It is refused
 /// exactly where it has one, with the first: the first by file, then by place, and of those that begin at one place by kind, in the order of
-/// `CheckKind`. `NoMemory` comes at want of memory, of a number below 2^32 for files, functions, statements or names, or of one below 2^16
+/// `CheckKind`. `NoMemory` comes where memory runs out, of a number below 2^32 for files, functions, statements or names, or of one below 2^16
 /// for the file of a mistake.
 ///
 /// - `ImportCycle`: an import of a file from which imports lead to this one, itself included; at the import.

@@ -16,7 +16,7 @@ pub(crate) struct Given {
     pub(crate) known: Known,
 }
 
-/// What the statements of a file declare as constants, and what they import. `NoMemory` comes at want of memory, or of a number below 2^32
+/// What the statements of a file declare as constants, and what they import. `NoMemory` comes where memory runs out, or of a number below 2^32
 /// for a constant, or of one below 2^16 for a file.
 pub(crate) fn givens(
     alloc: Global,

@@ -6,7 +6,7 @@ pub fn one_program()
     ensures { IsOneProgram }
 {}
 
-/// The module files of a program without mistakes run in one order: none of its imports are part of a circle.
+/// The module files of a program without mistakes run in one order: none of its imports are part of a cycle.
 pub fn one_order()
     ensures { IsOneOrder }
 {}

@@ -11,7 +11,7 @@ use sv_base::{Names, NoMemory};
 use sv_code::{BuiltIn, Known};
 use sv_lower::TopNames;
 
-/// What names stand for at the top of a file with some cells, constants and imports. `NoMemory` comes at want of memory alone.
+/// What names stand for at the top of a file with some cells, constants and imports. `NoMemory` comes only where memory runs out.
 pub(crate) fn tops(
     alloc: Global,
     names: &Names,

@@ -25,7 +25,7 @@ struct Seen {
 
 /// What the content of a component's tag looks at, where its default content has some names and the component that it stands in has
 /// `count` cells: the cells by number and the locals of its parts, handlers and tags, but for the names of its own rows and slot props, and
-/// the owner's view, where it has a `<slot>`. `NoMemory` comes at want of memory alone.
+/// the owner's view, where it has a `<slot>`. `NoMemory` comes only where memory runs out.
 pub fn looked_at(
     alloc: Global,
     count: usize,
@@ -42,7 +42,7 @@ pub fn looked_at(
 }
 
 /// What a component's tag looks at, in a component that has `count` cells: what its attributes and its content do. `NoMemory` comes at
-/// want of memory alone.
+/// `NoMemory` alone.
 pub fn tag_looks(
     alloc: Global,
     count: usize,

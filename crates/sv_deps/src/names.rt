@@ -11,7 +11,7 @@ use sv_code::{CellList, Reading};
 use sv_names::{LocalScope, is_local, locals_among};
 
 /// What some names look at: the cells of these names by number, but for those that a local hides, and the locals of these names, in their
-/// order. `cells` are those of the component, at most 256, and `locals` the scopes of markup round the place. `NoMemory` comes at want of memory alone.
+/// order. `cells` are those of the component, at most 256, and `locals` the scopes of markup round the place. `NoMemory` comes only where memory runs out.
 ///
 /// The rule is this project's own: a part of a page is evaluated again where a cell or a local that it looks at has changed.
 pub fn reading(

@@ -28,7 +28,7 @@ pub(crate) struct ContentScope<'a> {
 }
 
 /// The fragments of the markup of a component. Functions and arrows in it, component tags and handlers are put behind those that there are:
-/// handlers in the order of the text, and a tag where its content ends. `NoMemory` comes at want of memory, of a number below 2^32 for one of
+/// handlers in the order of the text, and a tag where its content ends. `NoMemory` comes where memory runs out, of a number below 2^32 for one of
 /// them, or of one below 2^16 for a file; some may have been added then.
 ///
 /// - White space is taken at the two ends of the content of the file, of a branch of a block, of a component's tag and of a `<slot>`; texts

@@ -88,7 +88,7 @@ pub fn bound_attr(here: &Here<'_>, boolean: bool, target: &Part) -> Result<Optio
     }
 }
 
-/// Adds an attribute with its number in the template, if it shows anything. A number beyond 16 bits counts as want of memory.
+/// Adds an attribute with its number in the template, if it shows anything. A number beyond 16 bits counts as `NoMemory`.
 pub fn place(
     alloc: Global,
     all: &mut Attributes,

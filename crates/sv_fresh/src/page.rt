@@ -14,7 +14,7 @@ use sv_states::DEPTH_LIMIT;
 use sv_value::Inst;
 use sv_world::World;
 
-/// The document tree of the page that the present states give, from the instance with number 1 on; `NoMemory` comes at want of memory alone.
+/// The document tree of the page that the present states give, from the instance with number 1 on; `NoMemory` comes only where memory runs out.
 #[tactic(auto, unfolding(crate::specs::Fresh::fresh))]
 pub fn render(
     alloc: Global,

@@ -17,7 +17,7 @@ use sv_scopes::{is_slotted, let_names, row_names};
 /// The places of the expressions in a component's markup that aren't pure, each where its first impurity is, in the order of the text:
 /// those of attributes and directives, `on:` among them, of the heads of blocks, of keys and of text. `names` are those with which the
 /// component was read, and `known` is what is known at its top level. The names of a row hide it in its key and its content, and `let:`
-/// names in the content that they are of (Svelte 4 docs, '{#each}' and '`<slot key={value}>`'). `NoMemory` comes at want of memory alone.
+/// names in the content that they are of (Svelte 4 docs, '{#each}' and '`<slot key={value}>`'). `NoMemory` comes only where memory runs out.
 pub fn impure_markup(
     alloc: Global,
     names: &Names,

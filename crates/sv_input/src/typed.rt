@@ -67,7 +67,7 @@ fn is_bound(typed: &Typed, element: &Element) -> bool
     listeners.iter().any(|listener| assigns(typed, listener.at))
 }
 
-/// Lays down what an element takes of an event, unless a variable keeps it. On want of memory nothing changed.
+/// Lays down what an element takes of an event, unless a variable keeps it. Where memory runs out, nothing changed.
 pub fn lay_down(
     showing: &mut Showing,
     element: &Element,

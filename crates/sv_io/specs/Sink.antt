@@ -6,7 +6,7 @@ abbrev pub with_bytes : Option (List ℕ) → List ℕ → Option (List ℕ)
 with_bytes None bytes = None
 with_bytes (Some held) bytes = Some (held ++ bytes)
 
--- a front of these bytes was appended
+-- a prefix of these bytes was appended
 pub record AppendsFront (old new : Option (List ℕ)) (bytes : List ℕ) : Type 0 where
   pub front : List ℕ
   pub rest : List ℕ

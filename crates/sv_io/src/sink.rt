@@ -34,7 +34,7 @@ pub trait Sink {
     /// How many writes have failed so far.
     ghost faults: { Self → ℕ };
 
-    /// Appends a front of the piece and answers how long it is: at least one byte of a piece that has one, and 0 for an
+    /// Appends a prefix of the piece and answers how long it is: at least one byte of a piece that has one, and 0 for an
     /// empty piece, which is never refused. A refusal appends nothing, and a write fails only where the count of faults rises.
     fn write(&mut self, bytes: &[u8]) -> Result<usize, SinkError>
         ensures appended { IfOk result (λ n. written self.new ≡ with_bytes (written self.old) (take n bytes.now)) }
@@ -47,7 +47,7 @@ pub trait Sink {
 }
 
 /// Writes the whole piece; an empty one without a call. Each write hands on all that is left of it. A refusal is the
-/// sink's own, and leaves a front of the piece written. It takes no memory.
+/// sink's own, and leaves a prefix of the piece written. It takes no memory.
 pub fn write_all<K: Sink>(sink: &mut K, bytes: &[u8]) -> Result<(), SinkError>
     ensures all { OnOk result (K.written sink.new ≡ with_bytes (K.written sink.old) bytes.now) }
     ensures front { OnErr result (AppendsFront (K.written sink.old) (K.written sink.new) bytes.now) }

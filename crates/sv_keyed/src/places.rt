@@ -38,7 +38,7 @@ pub(crate) fn places_of(alloc: Global, keys: &[Key]) -> Result<BTreeMap<Key, usi
     Ok(places)
 }
 
-/// The first key that equals an earlier one, or `None` exactly where no key stands twice; `NoMemory` comes at want of memory alone.
+/// The first key that equals an earlier one, or `None` exactly where no key stands twice; `NoMemory` comes only where memory runs out.
 pub fn first_duplicate(alloc: Global, keys: &[Key]) -> Result<Option<Key>, NoMemory>
     ensures { IfOk result (λ key. key ≡ first_repeat keys.now) }
 {

@@ -88,7 +88,7 @@ impl<T: Copy> Items<T> {
         Ok(list)
     }
 
-    /// Puts the same items at the end. On want of memory some of them may have been put there.
+    /// Puts the same items at the end. Where memory runs out, some of them may have been put there.
     pub fn extend_from_slice(&mut self, items: &[T]) -> Result<(), NoMemory>
         ensures ok { OnOk result (self.new ≡ self.old ++ items.now) }
         ensures err { OnErr result (take (length self.old) self.new ≡ self.old) }

@@ -74,7 +74,7 @@ mutual
     ends : (name : List ℕ) (names : List (List ℕ)) (bundle : Bundle) (error : LoadError)
         → Reads files name bundle (Err error) → ReadsAll files (name ∷ names) bundle (Err error)
 
--- an answer is as it says, but for a failed read and for want of memory
+-- an answer is as it says, but for a failed read and for `NoMemory`
 abbrev pub Tells : {A : Type 0} → (Result A LoadError → Type 0) → Result A LoadError → Type 0
 Tells Is (Ok x) = Is (Ok x)
 Tells Is (Err Failed) = ⊤

@@ -82,7 +82,7 @@ fn read_all<F: Shelf>(
 ///
 /// It stops at the first name that isn't on the shelf (`Missing`), file of more than `FILE_LIMIT` bytes (`TooLong`), file
 /// that would be one more than `FILE_COUNT_LIMIT` and isn't read (`TooMany`), file without a tree (`Refused`), failed read,
-/// or want of memory.
+/// or `NoMemory`.
 pub fn load<F: Shelf>(alloc: Global, shelf: &mut F, root: &str) -> Result<Bundle, LoadError>
     ensures loads { IfSome (F.files shelf.old) (λ files. Loads files root.now result) }
     ensures lines { IfOk result (λ bundle. LinesAscend bundle.files) }

@@ -17,7 +17,7 @@ use sv_names::{Distinct, LocalScope};
 
 /// The code of an expression where it stands. Each arrow in it is put behind the functions that there are, and becomes its number: an arrow
 /// inside another comes before it. A call of `createEventDispatcher` becomes the number of a dispatcher in the same way. `NoMemory` comes at
-/// want of memory, or of a number below 2^32 for a function; some functions may have been added then.
+/// `NoMemory`, or of a number below 2^32 for a function; some functions may have been added then.
 #[cycle(lower)]
 pub fn lower_expr(
     inside: &Inside<'_>,

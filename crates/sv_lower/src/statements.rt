@@ -20,7 +20,7 @@ use sv_code::{
 use sv_names::{Distinct, LocalScope, block_scope};
 
 /// The code of statements in turn where they stand. Each function and each arrow in them is put behind the functions that there are, and
-/// becomes its number: those inside another come before it. `NoMemory` comes at want of memory, or of a number below 2^32 for a function;
+/// becomes its number: those inside another come before it. `NoMemory` comes where memory runs out, or of a number below 2^32 for a function;
 /// some functions may have been added then.
 #[cycle(lower)]
 pub fn lower_stmts(

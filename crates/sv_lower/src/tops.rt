@@ -28,7 +28,7 @@ impl Model for TopNames {
 }
 
 impl TopNames {
-    /// No names, in a program of which these are all names. `NoMemory` comes at want of memory alone.
+    /// No names, in a program of which these are all names. `NoMemory` comes only where memory runs out.
     pub fn new(alloc: Global, names: &Names) -> Result<TopNames, NoMemory>
         ensures { IfOk result (λ tops. tops ≡ record { known = []; words = spec_words names.now }) }
     {

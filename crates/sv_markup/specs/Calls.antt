@@ -51,7 +51,7 @@ is_limit TooDeep = true
 is_limit NumberTooWide = true
 is_limit _ = false
 
--- no answer: where memory is wanted names may have been added behind the old ones. A refusal leaves those, and there is no tree within the limits; where it is for the grammar's sake there is none within any
+-- no answer: where memory runs out names may have been added behind the old ones. A refusal leaves those, and there is no tree within the limits; where it is for the grammar's sake there is none within any
 abbrev pub Refuses : {A : Type 0} → (Limits → Input → A → Input → Type 0) → Input → ParseError → List (List ℕ) → Type 0
 Refuses At i errors.NoMemory new = take (length i.known) new ≡ i.known
 Refuses At i (errors.Refused r) new = (HasTree (At real) i → ⊥) × (is_limit r.kind ≡ false → (wide : Limits) → HasTree (At wide) i → ⊥) × (new ≡ i.known)

@@ -89,7 +89,7 @@ fn component(
 /// `names`, of which it takes those that are there. Bytes that are no UTF-8 are refused as `NotUtf8`. A text that has no
 /// tree is refused where it can't go on, a tag or a block without an end where that begins, and then `names` stays as it
 /// was. `Syntax`, `Unclosed` and `OutOfScope` say that it has none within any limits, `TooDeep` and `NumberTooWide` that it
-/// came to a limit. On want of memory `names` may have grown.
+/// came to a limit. Where memory runs out, `names` may have grown.
 pub fn parse_component(
     alloc: Global,
     names: &mut Names,

@@ -11,7 +11,7 @@ use sv_base::NoMemory;
 use sv_list::Items;
 
 /// The names that stand free in an expression, by first appearance, each once. Those in its arrows are among them, but not
-/// what an arrow or a block in it declares. A store `$x` is never hidden. `NoMemory` comes at want of memory alone.
+/// what an arrow or a block in it declares. A store `$x` is never hidden. `NoMemory` comes only where memory runs out.
 pub fn free_names(alloc: Global, e: &Expr) -> Result<RefList, NoMemory>
     ensures { IfOk result (λ names. names ≡ spec.free_names e.now) }
 {
@@ -20,7 +20,7 @@ pub fn free_names(alloc: Global, e: &Expr) -> Result<RefList, NoMemory>
     names_of(alloc, walk.uses.as_slice())
 }
 
-/// The names that stand free in an arrow with some parameters, by first appearance, each once. `NoMemory` comes at want of memory alone.
+/// The names that stand free in an arrow with some parameters, by first appearance, each once. `NoMemory` comes only where memory runs out.
 pub fn names_in_arrow(alloc: Global, params: &[Named], body: &Body) -> Result<RefList, NoMemory>
     ensures { IfOk result (λ names. names ≡ spec.free_in params.now (spec.body_parts body.now)) }
 {
@@ -29,7 +29,7 @@ pub fn names_in_arrow(alloc: Global, params: &[Named], body: &Body) -> Result<Re
     names_of(alloc, walk.uses.as_slice())
 }
 
-/// The names that stand free in a function with some parameters, by first appearance, each once. `NoMemory` comes at want of memory alone.
+/// The names that stand free in a function with some parameters, by first appearance, each once. `NoMemory` comes only where memory runs out.
 pub fn names_in_block(alloc: Global, params: &[Named], stmts: &[Stmt]) -> Result<RefList, NoMemory>
     ensures { IfOk result (λ names. names ≡ spec.free_in params.now (spec.together (map spec.stmt_parts stmts.now))) }
 {

@@ -51,7 +51,7 @@ pub fn name_of(name: Ref) -> Name
     }
 }
 
-/// The locals among some names, in their order. `NoMemory` comes at want of memory alone.
+/// The locals among some names, in their order. `NoMemory` comes only where memory runs out.
 pub fn locals_among(
     alloc: Global,
     locals: &LocalScope<'_>,

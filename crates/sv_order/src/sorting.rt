@@ -18,7 +18,7 @@ const POINT_LIMIT: usize = u32::MAX as usize;
 /// placed yet first visits those that are before it, by the names that it reads and then in source order, and then places it.
 ///
 /// A statement is before another if it assigns a name that the other reads and doesn't assign. `Cycle` comes exactly where
-/// statements are before one another in a circle.
+/// statements are before one another in a cycle.
 pub fn order(alloc: Global, list: &[Reads]) -> Result<Vec<u32>, OrderError>
     ensures order { IfOk result (λ order. IsOrder list.now order.items) }
     ensures once { IfOk result (λ order. IsEachOnce list.now order.items) }

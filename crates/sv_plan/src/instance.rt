@@ -68,7 +68,7 @@ fn plan_instance(
 /// Patches an instance to its present view, from what was shown of it before, and records the view and what is shown on it. What the page
 /// shows of it is not made here.
 ///
-/// A refusal comes exactly where the plan meets one, and then nothing changed; the same at want of memory.
+/// A refusal comes exactly where the plan meets one, and then nothing changed; the same where memory runs out.
 #[tactic(auto, unfolding(crate::specs::Patch::patched))]
 pub fn patch(
     patching: &Patching<'_>,

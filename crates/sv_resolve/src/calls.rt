@@ -17,7 +17,7 @@ use sv_scopes::{FileScopes, scopes_of_component, scopes_of_module};
 
 /// The first mistake that the scopes of a file show, of those that concern its names alone: the one that begins first, and of
 /// two that begin at one place that of the earlier kind. `names` are those with which the file was read. There is none exactly
-/// where the scopes show no mistake; `NoMemory` comes at want of memory alone.
+/// where the scopes show no mistake; `NoMemory` comes only where memory runs out.
 ///
 /// - `DeclaredTwice`: at a name that its scope has declared before (ECMA-262, 14.2.1), and at each declaration of `Math`.
 /// - `UnknownName`: at a name that no scope declares and that isn't called as `String`, `Boolean`, `console.log` or a function of
@@ -45,7 +45,7 @@ pub fn first_mistake(
 }
 
 /// Where each name of a component's top level is: its cells and its constants. `names` are those with which the component was
-/// read. It is refused exactly where its scopes show a mistake, with the first; `NoMemory` comes at want of memory alone.
+/// read. It is refused exactly where its scopes show a mistake, with the first; `NoMemory` comes only where memory runs out.
 pub fn resolve(alloc: Global, names: &Names, c: &Component) -> Result<Scopes, CheckError>
     ensures clean { OnOk result (mistakes names.now (component_scopes c.now) ≡ []) }
     ensures scopes { IfOk result (λ scopes. scopes ≡ cells.scopes (component_scopes c.now).top) }

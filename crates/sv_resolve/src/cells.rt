@@ -19,7 +19,7 @@ pub struct Scopes {
     pub constants: RefList,
 }
 
-/// The names of a top level: its cells and its constants. `NoMemory` comes at want of memory alone.
+/// The names of a top level: its cells and its constants. `NoMemory` comes only where memory runs out.
 pub fn scopes_of(alloc: Global, top: &Scope) -> Result<Scopes, NoMemory>
     ensures { IfOk result (λ scopes. scopes ≡ spec.scopes top.now) }
 {

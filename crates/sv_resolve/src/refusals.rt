@@ -6,7 +6,7 @@ use thiserror::Error;
 /// `CapturedAssign` are found here.
 #[derive(Clone, Copy, Debug, PartialEq, Eq, Error)]
 pub enum CheckKind {
-    /// Files import one another in a circle.
+    /// Files import one another in a cycle.
     #[error("ImportCycle")]
     ImportCycle,
     /// What is imported isn't there.

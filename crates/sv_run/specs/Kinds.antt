@@ -33,7 +33,7 @@ check_word check.BadBind = codes "BadBind"
 check_word check.TooManyNames = codes "TooManyNames"
 check_word check.ReactiveCycle = codes "ReactiveCycle"
 
--- why an events file is refused; want of memory refuses none
+-- why an events file is refused; `NoMemory` refuses none
 abbrev pub fault_in : EventsError → Option EventsFault
 fault_in error.NotJson = Some fault.NotJson
 fault_in error.BadForm = Some fault.BadForm

@@ -17,13 +17,13 @@ pub record Answers (words : List (List ℕ)) (files : Files) (old new : Option (
   pub called_for : IsAnswer words files answer
   pub given : Gives answer old new status
 
--- the output of an answer that is called for broke off: a front of it was written
+-- the output of an answer that is called for broke off: a prefix of it was written
 pub record BreaksOff (words : List (List ℕ)) (files : Files) (old new : Option (List ℕ)) : Type 0 where
   pub answer : Answer
   pub called_for : IsAnswer words files answer
   pub front : AppendsFront old new (text_of answer)
 
--- what a run with this status wrote: nothing after a failed read, a front after a failed write, nothing or a front at want of
+-- what a run with this status wrote: nothing after a failed read, a prefix after a failed write, nothing or a prefix at want of
 -- memory, and else the whole output of an answer with this status that is called for
 abbrev pub RunAnswers : List (List ℕ) → Files → Option (List ℕ) → Option (List ℕ) → Status → Type 0
 RunAnswers words files old new statuses.ReadFault = new ≡ old
@@ -36,7 +36,7 @@ RunAnswers words files old new statuses.Source = Answers words files old new sta
 RunAnswers words files old new statuses.Events = Answers words files old new statuses.Events
 RunAnswers words files old new statuses.Missing = Answers words files old new statuses.Missing
 
--- each answer that is called for is given, unless memory is wanted
+-- each answer that is called for is given, unless memory runs out
 abbrev pub RunCompletes : List (List ℕ) → Files → Option (List ℕ) → Option (List ℕ) → Status → Type 0
 RunCompletes words files old new status =
     (answer : Answer) → IsAnswer words files answer → Gives answer old new status ⊎ (status ≡ statuses.NoMemory)

@@ -59,7 +59,7 @@ pub fn check_word(kind: CheckKind) -> &'static str
     }
 }
 
-/// Why an events file that tells no events is refused. `NoMemory` comes for the want of memory, which refuses none.
+/// Why an events file that tells no events is refused. `NoMemory` comes for `NoMemory`, which refuses none.
 pub fn events_fault(error: EventsError) -> Result<EventsFault, NoMemory>
     ensures { IfOk result (λ fault. spec.fault_in error ≡ Some fault) }
 {

@@ -15,9 +15,9 @@ pub enum Status {
     Turn,
     /// A file could not be read. Nothing was printed.
     ReadFault,
-    /// The output could not be written. A front of it was printed.
+    /// The output could not be written. A prefix of it was printed.
     WriteFault,
-    /// Memory was wanted. Nothing or a front of the output was printed.
+    /// Memory was wanted. Nothing or a prefix of the output was printed.
     NoMemory,
     /// A file isn't there.
     Missing,

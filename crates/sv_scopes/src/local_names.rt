@@ -12,7 +12,7 @@ use sv_base::NoMemory;
 use sv_names::Distinct;
 
 /// The `let:` names of a tag, each once: behind the colon, or the name that is the value (Svelte 4 docs, '`<slot key={value}>`').
-/// `NoMemory` comes at want of memory alone.
+/// `NoMemory` comes only where memory runs out.
 pub fn let_names(alloc: Global, attrs: &[TagAttr]) -> Result<Distinct, NoMemory>
     ensures { IfOk result (λ names. names ≡ firsts (names_of (spec.lets attrs.now))) }
 {

@@ -19,7 +19,7 @@ input_of file text from names = record { text = text; at = from; file = file; kn
 abbrev pub HasTree : {A : Type 0} → (Input → A → Input → Type 0) → Input → Type 0
 HasTree {A} Is i = (x : A) × (o : Input) × Is i x o
 
--- no answer: where memory is wanted names may have been added behind the old ones. A refusal leaves those, and there is no tree within the limits; where it is `Syntax` there is none within any
+-- no answer: where memory runs out names may have been added behind the old ones. A refusal leaves those, and there is no tree within the limits; where it is `Syntax` there is none within any
 abbrev pub Refuses : {L A : Type 0} → (L → Input → A → Input → Type 0) → L → Input → ParseError → List (List ℕ) → List (List ℕ) → Type 0
 Refuses {L} Is limits i errors.NoMemory old new = take (length old) new ≡ old
 Refuses {L} Is limits i (errors.Refused r) old new =

@@ -33,7 +33,7 @@ fn script(
 /// The tree of a component's script, which is the bytes from `from` to `to` (Svelte 4 docs, "Svelte components", "<script>";
 /// ECMA-262, sections 13 to 16). The names in it go to `names`, of which it takes those that are there. A text that has no
 /// tree is refused at the token that can't go on, and then `names` stays as it was. `Syntax` says that it has none within any
-/// limits, `TooDeep` and `NumberTooWide` that it came to a limit. On want of memory `names` may have grown.
+/// limits, `TooDeep` and `NumberTooWide` that it came to a limit. Where memory runs out, `names` may have grown.
 pub fn parse_script(
     alloc: Global,
     names: &mut Names,

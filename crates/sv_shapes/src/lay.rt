@@ -9,7 +9,7 @@ use sv_base::NoMemory;
 use sv_list::Items;
 use sv_tokens::Typed;
 
-/// The same shapes with a state that a user left in the element with a mark; `NoMemory` comes at want of memory alone.
+/// The same shapes with a state that a user left in the element with a mark; `NoMemory` comes only where memory runs out.
 #[cycle(lay)]
 pub fn lay_all(alloc: Global, mark: u64, typed: &Typed, parts: &[Shape]) -> Result<Shapes, NoMemory>
     ensures { IfOk result (λ all. all ≡ laid_all mark typed.now parts.now) }

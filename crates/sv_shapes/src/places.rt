@@ -7,7 +7,7 @@ use std::alloc::Global;
 use sv_base::NoMemory;
 use sv_list::Items;
 
-/// The places of the component tags in what is shown, in document order; `NoMemory` comes at want of memory alone.
+/// The places of the component tags in what is shown, in document order; `NoMemory` comes only where memory runs out.
 pub fn places_of(alloc: Global, parts: &[Shape]) -> Result<Items<u64>, NoMemory>
     ensures { IfOk result (λ found. found ≡ places_all parts.now) }
 {

@@ -56,7 +56,7 @@ impl Showing {
         self.shown.get(&inst.number)
     }
 
-    /// An instance is shown on this view. On want of memory nothing changed.
+    /// An instance is shown on this view. Where memory runs out, nothing changed.
     pub fn record(&mut self, inst: Inst, view: View, parts: Shapes) -> Result<(), NoMemory>
         ensures ok { OnOk result (self.new ≡ spec.recorded self.old inst.number view parts) }
         ensures err { OnErr result (self.new ≡ self.old) }
@@ -72,7 +72,7 @@ impl Showing {
         self.shown.remove(&inst.number);
     }
 
-    /// A user left a state in the element with this mark. On want of memory nothing changed.
+    /// A user left a state in the element with this mark. Where memory runs out, nothing changed.
     pub fn lay(&mut self, inst: Inst, mark: u64, typed: &Typed) -> Result<(), NoMemory>
         ensures ok { OnOk result (self.new ≡ spec.laid_on self.old inst.number mark typed.now) }
         ensures err { OnErr result (self.new ≡ self.old) }
@@ -87,7 +87,7 @@ impl Showing {
         }
     }
 
-    /// The places of the component tags in what is shown of an instance, in document order; `NoMemory` comes at want of memory alone.
+    /// The places of the component tags in what is shown of an instance, in document order; `NoMemory` comes only where memory runs out.
     pub fn places(&self, inst: Inst) -> Result<Items<u64>, NoMemory>
         ensures { IfOk result (λ found. found ≡ spec.places_of self.now inst.number) }
     {
@@ -105,7 +105,7 @@ impl Showing {
         Some(child.inst())
     }
 
-    /// Puts a child at a place. On want of memory nothing changed.
+    /// Puts a child at a place. Where memory runs out, nothing changed.
     pub fn put_child(&mut self, place: u64, inst: Inst) -> Result<(), NoMemory>
         ensures ok { OnOk result (self.new ≡ spec.with_child self.old place inst.number) }
         ensures err { OnErr result (self.new ≡ self.old) }

@@ -15,7 +15,7 @@ use sv_base::{Name, Names, NoMemory, Text};
 use sv_names::Distinct;
 use sv_scopes::{is_slotted, let_names, row_names};
 
-/// The sites of a component, in the order of its tags. `names` are those with which it was read. `NoMemory` comes at want of memory
+/// The sites of a component, in the order of its tags. `names` are those with which it was read. `NoMemory` comes where memory runs out
 /// alone.
 ///
 /// - A plain attribute of a component's tag gives it a prop.

@@ -17,7 +17,7 @@ pub enum Piece<T> {
 
 /// What is kept of nodes that stand beside one another. Texts are joined where nothing but parts of their own stands between them; then,
 /// where the content `strips`, white space goes at its two ends, parts of their own aside, and text of which nothing is left. White space
-/// is SPACE, TAB, LF, CR and FF (HTML, 'ASCII whitespace'). `NoMemory` comes at want of memory alone.
+/// is SPACE, TAB, LF, CR and FF (HTML, 'ASCII whitespace'). `NoMemory` comes only where memory runs out.
 pub fn kept<T: Copy + Drop>(
     alloc: Global,
     pieces: &[Piece<T>],
