@@ -141,7 +141,7 @@ fn push_import(line: &mut String, names: &Names, import: &Import) -> Result<(), 
     if let Some(whole) = &import.whole {
         write!(line, " {}", text_of(names, whole.name))?;
     }
-    for spec in import.specs.as_slice() {
+    for spec in import.names.as_slice() {
         let (given, local) = (
             text_of(names, spec.given.name),
             text_of(names, spec.local.name),

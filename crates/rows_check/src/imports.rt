@@ -5,12 +5,12 @@ use crate::words::{listed, push_found};
 use std::alloc::Global;
 use sv_ast::Bundle;
 use sv_base::Span;
+use sv_effects::pure_functions;
 use sv_imports::{import_cycles, unknown_imports};
 use sv_list::Items;
-use sv_effects::pure_functions;
 
-/// The imports that are part of a circle, file by file.
-pub fn circles(alloc: Global, row: &str) -> Result<String, Unanswered> {
+/// The imports that are part of a cycle, file by file.
+pub fn cycles(alloc: Global, row: &str) -> Result<String, Unanswered> {
     let sources = sources(alloc, row)?;
     let bundle = program(alloc, &sources, Form::Script)?;
     found(alloc, &sources, &import_cycles(alloc, &bundle)?)

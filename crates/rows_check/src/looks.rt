@@ -7,10 +7,10 @@ use std::alloc::{AllocError, Global};
 use sv_ast::{Component, Ref, RefList};
 use sv_base::Names;
 use sv_code::{Frag, Functions, Handlers, Reading, Tag, Tags};
+use sv_deps::reading;
 use sv_fragments::{Around, Tables, fragments_of};
 use sv_lower::TopNames;
 use sv_names::{Distinct, LocalScope};
-use sv_deps::reading;
 use sv_resolve::resolve;
 use sv_slots::children_of;
 

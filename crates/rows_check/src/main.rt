@@ -73,7 +73,7 @@ fn found_beyond(alloc: Global, kind: &str, row: &str) -> Result<String, Unanswer
         "visits of points" => orders::of_points(alloc, row),
         "reached points" => orders::reached_from(alloc, row),
         "pure functions" => imports::pure(alloc, row),
-        "circles of imports" => imports::circles(alloc, row),
+        "cycles of imports" => imports::cycles(alloc, row),
         "unknown imports" => imports::unknown(alloc, row),
         "sites" => sites::sites(alloc, row),
         "unknown props" => slots::mistakes(alloc, Part::Props, row),

@@ -6,9 +6,9 @@ use crate::words::ref_of;
 use std::alloc::Global;
 use sv_ast::RefList;
 use sv_base::Names;
+use sv_graph::{Visited, reached, unlinked, visit};
 use sv_order::{OrderError, Reads, order};
 use sv_rows::{push_part, yes_or_no};
-use sv_graph::{Visited, reached, unlinked, visit};
 
 /// The order of statements with `; ` between, each as `reads` and the names that it reads, and `sets` and those that it assigns; or
 /// a cycle.

@@ -1,6 +1,9 @@
 // Whole files.
+ghost use Rattle.std.specs.Prelude.{◌≡◌, MatchOption, Some, None};
+ghost use Rattle.sv_ast.specs.Files as spec;
+
 use crate::markup_tree::Nodes;
-use crate::script_tree::Stmts;
+use crate::script_tree::{Stmt, Stmts};
 use sv_base::{Names, Text};
 
 /// The source files of a program, in the order of reading.
@@ -35,6 +38,33 @@ pub struct Module {
 pub enum FileTree {
     Component(Component),
     Module(Module),
+}
+
+impl FileTree {
+    /// The statements at the top of the file.
+    pub fn statements(&self) -> &[Stmt]
+        ensures { result.now ≡ spec.statements_of self.now }
+    {
+        match self {
+            FileTree::Component(of) => of.script.stmts.as_slice(),
+            FileTree::Module(of) => of.script.stmts.as_slice(),
+        }
+    }
+
+    /// Whether it is that of a module.
+    pub fn is_module(&self) -> bool
+        ensures { result ≡ spec.is_module self.now }
+    {
+        matches!(self, FileTree::Module(_))
+    }
+}
+
+/// The name of the file that an import is from: `./x.js` is the file `x.js`. `None` comes exactly for what begins otherwise, as what the
+/// language gives does (ECMA-262, 16.2.2, leaves this to the host).
+pub fn name_in(from: &str) -> Option<&str>
+    ensures { MatchOption result (spec.name_in from.now ≡ None) (λ name. spec.name_in from.now ≡ Some name.now) }
+{
+    from.strip_prefix("./")
 }
 
 /// A file that was read, by the name that it has on the shelf.

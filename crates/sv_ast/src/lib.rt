@@ -10,7 +10,9 @@ mod operators;
 mod refusals;
 mod script_tree;
 
-pub use files::{Bundle, Component, FileTree, Files, LineStarts, Module, Script, SourceFile};
+pub use files::{
+    Bundle, Component, FileTree, Files, LineStarts, Module, Script, SourceFile, name_in,
+};
 pub use markup_tree::{
     AttrKind, AttrPart, AttrParts, AttrValue, Attrs, Branch, Branches, Markup, Modifiers, Nodes,
     TagAttr,
@@ -19,6 +21,6 @@ pub use names::{NameList, Named, Ref, RefList};
 pub use operators::{AssignOp, Op};
 pub use refusals::{Kind, ParseError, Refused};
 pub use script_tree::{
-    Arm, Arms, Body, Decl, Decls, Entry, Expr, ExprKind, Exprs, Field, Fields, Import, Items, Link,
-    Links, ImportName, ImportNames, Stmt, StmtKind, Stmts,
+    Arm, Arms, Body, Decl, Decls, Entry, Expr, ExprKind, Exprs, Field, Fields, Import, ImportName,
+    ImportNames, Items, Link, Links, Stmt, StmtKind, Stmts,
 };

@@ -165,12 +165,12 @@ pub struct Arm {
     pub body: Stmt,
 }
 
-/// `import whole from '..'`, or `import { specs } from '..'` where `whole` is `None`.
+/// `import whole from '..'`, or `import { names } from '..'` where `whole` is `None`.
 #[derive(Drop)]
 pub struct Import {
     pub from: Text,
     pub whole: Option<Named>,
-    pub specs: ImportNames,
+    pub names: ImportNames,
 }
 
 /// `given as local`. Without `as` both are the one name.

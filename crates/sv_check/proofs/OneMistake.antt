@@ -6,7 +6,7 @@ use Rattle.std.proofs.lemmas.Option.{slice_get_within}
 use Rattle.sv_ast.specs.declared.files.Bundle.{Bundle}
 use Rattle.sv_ast.specs.declared.names.Ref.{Ref}
 use Rattle.sv_base.specs.declared.span.Span.{Span}
-use Rattle.sv_imports.specs.Imports.{statements_of}
+use Rattle.sv_ast.specs.Files.{statements_of}
 use Rattle.sv_resolve.specs.declared.refusals.CheckRefusal.{CheckRefusal}
 use Rattle.sv_resolve.specs.Earliest.{IsEarliest}
 use Rattle.sv_check.specs.Checked.{in_file, IsMistakeOf, IsOneMistake, IsMistakeOrClean}

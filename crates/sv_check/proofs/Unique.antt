@@ -13,10 +13,12 @@ use Rattle.sv_ast.specs.declared.script_tree.Stmt.{Stmt}
 use Rattle.sv_ast.specs.declared.script_tree.StmtKind.{StmtKind-F, out-StmtKind}
 use Rattle.sv_base.specs.declared.span.Span.{Span}
 use Rattle.sv_imports.specs.Cycles.{TellsLeads, AreCycles, leads_back, closes, cycles_in, cycles_from}
-use Rattle.sv_imports.specs.Imports.{StmtLayer, statements_of, name_in, file_of_name, target_layer, target}
+use Rattle.sv_ast.specs.Files.{statements_of, name_in}
+use Rattle.sv_imports.specs.Imports.{StmtLayer, file_of_name, target_layer, target}
 use Rattle.sv_resolve.specs.declared.refusals.CheckRefusal.{CheckRefusal}
 use Rattle.sv_resolve.specs.Earliest.{IsEarliest}
-use Rattle.sv_effects.specs.Known.{Points, known, names_without}
+use Rattle.sv_names.specs.NameMap.{Entries}
+use Rattle.sv_effects.specs.Known.{known, names_without}
 use Rattle.sv_effects.specs.Stains.{ArePure}
 use Rattle.sv_graph.specs.Cycle.{IsFirstCycle}
 use Rattle.sv_graph.specs.Links.{is_in}
@@ -94,7 +96,7 @@ waiting_same stmts _ _ (none x) (some cycle f) = absurd (x cycle f.is_cycle)
 waiting_same stmts _ _ (some cycle f) (none y) = absurd (y cycle f.is_cycle)
 waiting_same stmts _ _ (some c f) (some d g) = place_same stmts c d f g
 
--- ---- circles of imports
+-- ---- cycles of imports
 
 -- a file that an import names is there
 named_within : (files : List SourceFile) (name : Option (List ℕ)) (p : ℕ) → file_of_name files name ≡ Some p → p < length files
@@ -131,7 +133,7 @@ cycles_same files a b p q = p.are ∙ cycles_from_same files p.leads q.leads p.t
 
 -- ---- pure functions
 
-without_same : (spoiled other : ℕ → Bool) → ((p : ℕ) → spoiled p ≡ other p) → (points : Points) → names_without spoiled points ≡ names_without other points
+without_same : (spoiled other : ℕ → Bool) → ((p : ℕ) → spoiled p ≡ other p) → (points : Entries) → names_without spoiled points ≡ names_without other points
 without_same spoiled other e points = ap (map (λ k. k.0)) (filter_alike (λ k. not (spoiled k.1)) (λ k. not (other k.1)) (λ k. ap not (e k.1)) points)
 
 pub pure_same : (bundle : Bundle) (a b : List (List Ref)) → ArePure bundle a → ArePure bundle b → a ≡ b

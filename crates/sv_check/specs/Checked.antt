@@ -8,7 +8,7 @@ use Rattle.sv_ast.specs.declared.names.Ref.{Ref}
 use Rattle.sv_base.specs.declared.limits.TheConstants.{CELL_LIMIT}
 use Rattle.sv_base.specs.declared.span.Span.{Span}
 use Rattle.sv_imports.specs.Cycles.{AreCycles}
-use Rattle.sv_imports.specs.Imports.{statements_of}
+use Rattle.sv_ast.specs.Files.{statements_of}
 use Rattle.sv_order.specs.ReactiveOrder.{IsOrder, IsEachOnce}
 use Rattle.sv_resolve.specs.declared.cells.Scopes.{Scopes}
 use Rattle.sv_resolve.specs.declared.refusals.CheckError.{CheckError}

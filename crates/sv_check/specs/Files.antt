@@ -1,13 +1,8 @@
 -- What is asked of a file by itself: its scopes, and its statements.
-use Rattle.std.specs.Prelude.{Bool, true, false}
 use Rattle.sv_ast.specs.declared.files.FileTree.{FileTree}
 use Rattle.sv_ast.specs.declared.files.FileTree.TheVariants as tree
 use Rattle.sv_scopes.specs.declared.scope.FileScopes.{FileScopes}
 use Rattle.sv_scopes.specs.Files.{component_scopes, module_scopes}
-
-abbrev pub is_component : FileTree → Bool
-is_component (tree.Component c) = true
-is_component (tree.Module m) = false
 
 -- the scopes of a file
 abbrev pub scopes_of : FileTree → FileScopes

@@ -29,7 +29,7 @@ abbrev pub local_names : Table → List ImportName → List Ref
 local_names table specs = map (λ spec. named spec.local) (filter (λ spec. is_one_of table life_functions spec.given.name) specs)
 
 abbrev pub life_specs : Table → Import → List Ref
-life_specs table i = if bytes_eq i.from LIFE_MODULE.now then local_names table i.specs else []
+life_specs table i = if bytes_eq i.from LIFE_MODULE.now then local_names table i.names else []
 
 abbrev pub life_layer : Table → StmtLayer → List Ref
 life_layer table (StmtKind-F.Import i) = life_specs table i

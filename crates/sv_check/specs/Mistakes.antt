@@ -1,5 +1,5 @@
 -- The mistakes of the files of a program. Each kind is the list of its places in a file.
-use Rattle.std.specs.Prelude.{◌≡◌, ℕ, List, [], ◌++◌, Some, slice_get, slice_index_or}
+use Rattle.std.specs.Prelude.{◌≡◌, ℕ, List, [], ◌++◌, Some, slice_get, slice_index_or, not}
 use Rattle.sv_ast.specs.declared.files.Bundle.{Bundle}
 use Rattle.sv_ast.specs.declared.files.FileTree.{FileTree}
 use Rattle.sv_ast.specs.declared.files.FileTree.TheVariants as tree
@@ -9,7 +9,7 @@ use Rattle.sv_base.specs.Names.{Table}
 use Rattle.sv_base.specs.declared.span.Span.{Span}
 use Rattle.sv_impure.specs.Built.{free_conversions}
 use Rattle.sv_impure.specs.Impure.{impure_markup}
-use Rattle.sv_imports.specs.Imports.{statements_of}
+use Rattle.sv_ast.specs.Files.{statements_of, is_module}
 use Rattle.sv_imports.specs.Unknown.{unknown_imports}
 use Rattle.sv_names.specs.Distinct.{firsts}
 use Rattle.sv_purity.specs.declared.scope.Known.{Known}
@@ -24,7 +24,7 @@ use Rattle.sv_slots.specs.Props.{unknown_props}
 use Rattle.sv_slots.specs.Sheets.{sheet, sheets}
 use Rattle.sv_slots.specs.Slots.{unknown_slots}
 use Rattle.sv_check.specs.Cells.{too_many}
-use Rattle.sv_check.specs.Files.{is_component, scopes_of}
+use Rattle.sv_check.specs.Files.{scopes_of}
 use Rattle.sv_check.specs.Life.{bad_life_places}
 use Rattle.sv_check.specs.Stores.{bad_stores}
 use Rattle.sv_check.specs.Waiting.{AreWaiting}
@@ -53,8 +53,8 @@ variables_of t = firsts (variables (scopes_of t).top.declares)
 -- the mistakes that a file's script shows by itself, beside those of its names
 abbrev pub script_mistakes : Table → FileTree → List CheckRefusal
 script_mistakes table t =
-    resolve.refused BadStore (bad_stores table (is_component t) (scopes_of t).top)
-    ++ resolve.refused BadLifecyclePlace (bad_life_places table (is_component t) (statements_of t) (scopes_of t).top)
+    resolve.refused BadStore (bad_stores table (not (is_module t)) (scopes_of t).top)
+    ++ resolve.refused BadLifecyclePlace (bad_life_places table (not (is_module t)) (statements_of t) (scopes_of t).top)
 
 -- the mistakes of the tags of a file with some variables
 abbrev pub tag_mistakes : List Ref → List Sheet → Sheet → List CheckRefusal
@@ -63,7 +63,7 @@ tag_mistakes variables all own =
     ++ resolve.refused UnknownSlot (unknown_slots all own)
     ++ resolve.refused BadBind (bad_binds variables all own)
 
--- the mistakes of a file by kind, where some imports are part of a circle, some names are those of pure functions, and its reactive
+-- the mistakes of a file by kind, where some imports are part of a cycle, some names are those of pure functions, and its reactive
 -- statements wait at some place: of two that begin at one place the one that stands first here is told
 abbrev pub file_mistakes : Bundle → List (List Span) → List (List Ref) → ℕ → SourceFile → List Span → List CheckRefusal
 file_mistakes bundle cycles pure n source waiting =

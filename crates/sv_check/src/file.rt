@@ -18,7 +18,6 @@ use crate::waiting::run_of;
 use std::alloc::Global;
 use sv_ast::{Bundle, FileTree, RefList, SourceFile};
 use sv_base::{Names, NoMemory, Span};
-use sv_imports::statements_of;
 use sv_list::Items;
 use sv_resolve::{CheckError, CheckKind, CheckRefusal, Scopes, first_mistake, scopes_of};
 use sv_scopes::{FileScopes, Scope, scopes_of_component, scopes_of_module};
@@ -38,7 +37,7 @@ pub(crate) fn check_file(
     ensures refused { IfErr result (IsCauseIn bundle.now found.now.cycles found.now.pure n) }
 {
     let scopes = file_scopes(alloc, &source.tree)?;
-    let run = run_of(alloc, statements_of(&source.tree))?;
+    let run = run_of(alloc, source.tree.statements())?;
     let waiting = run.waiting.as_slice();
     match file_mistake(alloc, bundle, found, n, source, &scopes, waiting)? {
         Some(first) => Err(CheckError::Refused(in_file(n, first)?)),
@@ -113,18 +112,12 @@ fn offer_script(
     requires { top.now ≡ (files.scopes_of tree.now).top }
     ensures { OnOk result (first.new ≡ fold earlier first.old (spec.script_mistakes names.now tree.now)) }
 {
-    let in_component = is_component(tree);
+    let in_component = !tree.is_module();
     let stores = bad_stores(alloc, names, in_component, top)?;
     offer_all(first, CheckKind::BadStore, stores.as_slice());
-    let life = bad_life_places(alloc, names, in_component, statements_of(tree), top)?;
+    let life = bad_life_places(alloc, names, in_component, tree.statements(), top)?;
     offer_all(first, CheckKind::BadLifecyclePlace, life.as_slice());
     Ok(())
-}
-
-fn is_component(tree: &FileTree) -> bool
-    ensures { result ≡ files.is_component tree.now }
-{
-    matches!(tree, FileTree::Component(_))
 }
 
 fn file_scopes(alloc: Global, tree: &FileTree) -> Result<FileScopes, NoMemory>

@@ -5,12 +5,12 @@ ghost use Rattle.sv_check.specs.Found.{AreFound};
 use std::alloc::Global;
 use sv_ast::{Bundle, RefList};
 use sv_base::{NoMemory, Span};
+use sv_effects::pure_functions;
 use sv_imports::{import_cycles, unknown_imports};
 use sv_list::Items;
 use sv_slots::{Sheet, sheets_of};
-use sv_effects::pure_functions;
 
-/// What is found before the files are looked at one by one: for each the imports that are part of a circle, the names that it imports and
+/// What is found before the files are looked at one by one: for each the imports that are part of a cycle, the names that it imports and
 /// that aren't given, the names of pure functions, and what is known of its markup.
 #[derive(Drop)]
 pub(crate) struct Found {

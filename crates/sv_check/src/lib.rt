@@ -17,3 +17,4 @@ mod waiting;
 pub use checked::{Checked, CheckedComponent};
 pub use laws::{mistake_or_clean, one_mistake};
 pub use program::check;
+pub use waiting::is_reactive;

@@ -5,7 +5,7 @@ ghost use Rattle.sv_check.specs.Life as spec;
 
 use crate::called::{Places, free_places};
 use std::alloc::Global;
-use sv_ast::{Import, Ref, ImportName, Stmt, StmtKind};
+use sv_ast::{Import, ImportName, Ref, Stmt, StmtKind};
 use sv_base::built_in::LIFE_MODULE;
 use sv_base::{Names, NoMemory, Span};
 use sv_imports::is_life_function;
@@ -78,7 +78,7 @@ fn add_import(life: &mut Distinct, names: &Names, import: &Import) -> Result<(),
     ensures { OnOk result (life.new ≡ with_names life.old (spec.life_specs names.now import.now)) }
 {
     if import.from.as_str() == LIFE_MODULE {
-        return add_specs(life, names, import.specs.as_slice());
+        return add_specs(life, names, import.names.as_slice());
     }
     Ok(())
 }

@@ -53,7 +53,8 @@ fn reads_of(alloc: Global, stmts: &[Stmt]) -> Result<Vec<Reads>, NoMemory>
     Ok(reads)
 }
 
-fn is_reactive(stmt: &Stmt) -> bool
+/// Whether a statement is reactive, as one after `$:` is.
+pub fn is_reactive(stmt: &Stmt) -> bool
     ensures { result ≡ spec.is_reactive stmt.now }
 {
     matches!(stmt.kind.get(), StmtKind::React(_))

@@ -42,7 +42,8 @@ use Rattle.sv_graph.specs.declared.outcome.Visited.{Visited}
 use Rattle.sv_graph.specs.declared.outcome.Visited.TheVariants as visited
 use Rattle.sv_compile.specs.Compile.{around, component, module_code, tree_code, file, files_code, writable, first_tables, program}
 use Rattle.sv_compile.specs.Constants.{all_constants, givens}
-use Rattle.sv_compile.specs.Modules.{is_module, is_module_at, modules_in, AreModules}
+use Rattle.sv_ast.specs.Files.{is_module}
+use Rattle.sv_compile.specs.Modules.{is_module_at, modules_in, AreModules}
 use Rattle.sv_compile.specs.TopLevel.{tops, cell_of}
 use Rattle.sv_compile.proofs.TagFiles.{tags_are_files}
 use Rattle.sv_compile.proofs.Reacting.{runs_are}

@@ -12,7 +12,8 @@ use Rattle.sv_base.specs.declared.span.Span.{Span}
 use Rattle.sv_check.specs.Checked.{IsClean}
 use Rattle.sv_check.specs.Mistakes.{at_file, file_mistakes}
 use Rattle.sv_imports.specs.Cycles.{leads_back, closes, cycles_in, cycles_from}
-use Rattle.sv_imports.specs.Imports.{statements_of, target, targets, imports}
+use Rattle.sv_ast.specs.Files.{statements_of}
+use Rattle.sv_imports.specs.Imports.{target, targets, imports}
 use Rattle.sv_imports.proofs.Leading.{imports-whole}
 use Rattle.sv_graph.specs.Cycle.{Leads as Chain, IsCycle}
 use Rattle.sv_graph.specs.Links.{is_in, links_of, IsLink}
@@ -36,7 +37,7 @@ none_before : {X : Type 0} (xs ys : List X) → xs ++ ys ≡ [] → xs ≡ []
 none_before [] ys e = refl
 none_before (x ∷ xs) ys e = cc
 
--- ---- imports that are part of a circle
+-- ---- imports that are part of a cycle
 
 -- the last point of a chain of links is linked to one that leads to the first
 closing : (links : List (List ℕ)) (p : ℕ) (points : List ℕ) (end : ℕ) → Chain (λ p q. IsLink links q p) p points end → (x : ℕ) × IsLink links end x × Leads (links_of links) (x ∷ []) p
@@ -51,7 +52,7 @@ kept_none : {X : Type 0} (x : X) (b : Bool) (xs : List X) → b ≡ false → co
 kept_none x true xs e h = cc
 kept_none x false xs e h = h
 
--- what is imported by a statement that closes no circle, or later
+-- what is imported by a statement that closes no cycle, or later
 imported_later : (leads : ℕ → ℕ → Bool) (p x : ℕ) (o : Option ℕ) (rest : List ℕ) → leads x p ≡ true → leads_back leads p o ≡ false → is_in x (cons_option o rest) ≡ true → is_in x rest ≡ true
 imported_later leads p x None rest back loose here = here
 imported_later leads p x (Some y) rest back loose here = elim (in_cons x y rest here) [
@@ -59,7 +60,7 @@ imported_later leads p x (Some y) rest back loose here = elim (in_cons x y rest 
   | inr later ↦ later
 ]
 
--- where no statement of a file closes a circle, nothing that the file imports leads back
+-- where no statement of a file closes a cycle, nothing that the file imports leads back
 unclosed : (leads : ℕ → ℕ → Bool) (files : List SourceFile) (p x : ℕ) (stmts : List Stmt) → leads x p ≡ true → filter (closes leads files p) stmts ≡ [] → is_in x (filter_map (target files) stmts) ≡ true → ⊥
 unclosed leads files p x [] back none here = false≢true here
 unclosed leads files p x (s ∷ stmts) back none here =
@@ -75,7 +76,7 @@ own_targets files [] p source there = absurd (let no : None ≡ Some source = th
 own_targets files (s ∷ sources) zero source there = ap (λ o. targets files (unwrap_or o s)) there
 own_targets files (s ∷ sources) (suc p) source there = own_targets files sources p source there
 
--- the circles of the file with a number
+-- the cycles of the file with a number
 own_cycles : (leads : ℕ → ℕ → Bool) (files : List SourceFile) (n : ℕ) (sources : List SourceFile) (p : ℕ) (source : SourceFile) → slice_get sources p ≡ Some source
     → at_file (cycles_from leads files n sources) p ≡ cycles_in leads files (n + p) source
 own_cycles leads files n [] p source there = absurd (let no : None ≡ Some source = there in cc)
@@ -92,10 +93,10 @@ no_mistakes : (bundle : Bundle) (cycles : List (List Span)) (pure : List (List R
 no_mistakes bundle cycles pure n source waiting e =
     none_mapped _ (at_file cycles n) (none_before _ _ (none_before _ _ (none_before _ _ (none_before _ _ (none_before _ _ (none_before _ _ (none_before _ _ (sym e))))))))
 
--- no files of a program without mistakes import one another in a circle
-no_circle : (bundle : Bundle) → IsClean bundle → (cycle : List ℕ) → IsCycle (λ p q. IsLink (imports bundle.files) q p) cycle → ⊥
-no_circle bundle is [] h = h
-no_circle bundle is (p ∷ points) h =
+-- no files of a program without mistakes import one another in a cycle
+no_cycle : (bundle : Bundle) → IsClean bundle → (cycle : List ℕ) → IsCycle (λ p q. IsLink (imports bundle.files) q p) cycle → ⊥
+no_cycle bundle is [] h = h
+no_cycle bundle is (p ∷ points) h =
     let files = bundle.files in
     let links = imports files in
     let closed = closing links p points p h in
@@ -103,15 +104,15 @@ no_circle bundle is (p ∷ points) h =
     let here : p < length files = subst (λ z. p < z) size (path_within links p closed.0 (one_link closed.1)) in
     let there : closed.0 < length files = subst (λ z. closed.0 < z) size ((imports-whole files links refl).within p closed.0 closed.1) in
     let own = is.clean p here in
-    let circles = is.are_cycles in
-    let back : circles.leads closed.0 p ≡ true = circles.tells.each closed.0 p there closed.2 in
+    let told_cycles = is.are_cycles in
+    let back : told_cycles.leads closed.0 p ≡ true = told_cycles.tells.each closed.0 p there closed.2 in
     let none : at_file is.cycles p ≡ [] = no_mistakes bundle is.cycles is.pure p own.source own.waiting own.is in
     let first : 0 + p ≡ p = omega arith in
-    let told : at_file is.cycles p ≡ cycles_in circles.leads files p own.source =
-    ap (λ c. at_file c p) circles.are ∙ own_cycles circles.leads files 0 files p own.source own.there ∙ ap (λ k. cycles_in circles.leads files k own.source) first in
-    let loose : filter (closes circles.leads files p) (statements_of own.source.tree) ≡ [] = none_mapped _ _ (sym told ∙ none) in
+    let told : at_file is.cycles p ≡ cycles_in told_cycles.leads files p own.source =
+    ap (λ c. at_file c p) told_cycles.are ∙ own_cycles told_cycles.leads files 0 files p own.source own.there ∙ ap (λ k. cycles_in told_cycles.leads files k own.source) first in
+    let loose : filter (closes told_cycles.leads files p) (statements_of own.source.tree) ≡ [] = none_mapped _ _ (sym told ∙ none) in
     let imported : is_in closed.0 (targets files own.source) ≡ true = subst (λ z. is_in closed.0 z ≡ true) (own_targets files files p own.source own.there) closed.1 in
-    unclosed circles.leads files p closed.0 (statements_of own.source.tree) back loose imported
+    unclosed told_cycles.leads files p closed.0 (statements_of own.source.tree) back loose imported
 
 -- ---- orders
 
@@ -119,8 +120,8 @@ no_circle bundle is (p ∷ points) h =
 orders_same : (bundle : Bundle) (a b : Visited) → IsClean bundle → IsVisited (imports bundle.files) (starts bundle.files) a → IsVisited (imports bundle.files) (starts bundle.files) b
     → modules_in bundle.files a ≡ modules_in bundle.files b
 orders_same bundle (visited.Order a) (visited.Order b) is one other = ap (filter (is_module_at bundle.files)) (visits_same _ _ a.items b.items one other)
-orders_same bundle (visited.Order a) (visited.Cycle c) is one other = absurd (no_circle bundle is c.items other.is_cycle)
-orders_same bundle (visited.Cycle c) b is one other = absurd (no_circle bundle is c.items one.is_cycle)
+orders_same bundle (visited.Order a) (visited.Cycle c) is one other = absurd (no_cycle bundle is c.items other.is_cycle)
+orders_same bundle (visited.Cycle c) b is one other = absurd (no_cycle bundle is c.items one.is_cycle)
 
 pub order_same : (bundle : Bundle) (a b : List ℕ) → IsClean bundle → AreModules bundle.files a → AreModules bundle.files b → a ≡ b
 order_same bundle a b is one other = one.are ∙ orders_same bundle one.visited other.visited is one.is_visited other.is_visited ∙ sym other.are

@@ -167,7 +167,7 @@ module _ (files : List SourceFile) (told : List CheckedComponent) (size : length
 
   layer_stands : (table : Table) (layer : StmtLayer) → All (GivenStands (sizes_told files told) file) (imported_layer table files layer)
   layer_stands table (StmtKind-F.Import i) =
-      filter_all (GivenStands (sizes_told files told) file) (spec_given table files (origin_of files i.from)) i.specs
+      filter_all (GivenStands (sizes_told files told) file) (spec_given table files (origin_of files i.from)) i.names
       (λ spec g is. spec_stands spec (import_of table files (origin_of files i.from) spec.given.name) g (import_stands table (origin_of files i.from) spec.given.name) is)
   layer_stands table _ = All-nil (GivenStands (sizes_told files told) file)
 

@@ -11,12 +11,14 @@ use Rattle.sv_ast.specs.declared.names.Named.{Named}
 use Rattle.sv_ast.specs.declared.names.Ref.{Ref}
 use Rattle.sv_ast.specs.declared.script_tree.Stmt.{Stmt}
 use Rattle.sv_ast.specs.declared.script_tree.StmtKind.{StmtKind-F, out-StmtKind}
-use Rattle.sv_imports.specs.Imports.{StmtLayer, name_in, file_of_name, file_named}
+use Rattle.sv_ast.specs.Files.{name_in}
+use Rattle.sv_imports.specs.Imports.{StmtLayer, file_of_name, file_named}
 use Rattle.sv_names.specs.Uses.{named}
-use Rattle.sv_slots.specs.Children.{Points, file_of, with_point, with_points, whole_point, points_layer, points_of, tag_files}
+use Rattle.sv_names.specs.NameMap.{Entries, number_of, with_entry, with_entries}
+use Rattle.sv_slots.specs.Children.{whole_point, points_layer, points_of, tag_files}
 
 -- points lead to so many files
-abbrev pub AreFiles : ℕ → Points → Type 0
+abbrev pub AreFiles : ℕ → Entries → Type 0
 AreFiles n points = All (λ k. k.1 < n) points
 
 found_below : (n k size : ℕ) → cond (nat_lt k size) (Some k) None ≡ Some n → n < size
@@ -39,14 +41,14 @@ all_points : (files : List SourceFile) (stmts : List Stmt) → AreFiles (length 
 all_points files [] = All-nil (λ k. k.1 < length files)
 all_points files (s ∷ stmts) = All-append (λ k. k.1 < length files) (points_of files s) (flat_map (points_of files) stmts) (layer_files files (out-StmtKind s.kind)) (all_points files stmts)
 
-one_more : (n : ℕ) (b : Bool) (points : Points) (k : Ref × ℕ) → AreFiles n points → k.1 < n → AreFiles n (if b then points else points ++ k ∷ [])
+one_more : (n : ℕ) (b : Bool) (points : Entries) (k : Ref × ℕ) → AreFiles n points → k.1 < n → AreFiles n (if b then points else points ++ k ∷ [])
 one_more n true points k h below = h
 one_more n false points k h below = All-push (λ k. k.1 < n) points k h below
 
-more_points : (n : ℕ) (points more : Points) → AreFiles n points → AreFiles n more → AreFiles n (with_points points more)
+more_points : (n : ℕ) (points more : Entries) → AreFiles n points → AreFiles n more → AreFiles n (with_entries points more)
 more_points n points [] h k = h
 more_points n points (p ∷ more) h k =
-    more_points n (with_point points p) more (one_more n (is_some (file_of points p.0)) points p h (All-head (λ k. k.1 < n) p more k)) (All-tail (λ k. k.1 < n) p more k)
+    more_points n (with_entry points p) more (one_more n (is_some (number_of points p.0)) points p h (All-head (λ k. k.1 < n) p more k)) (All-tail (λ k. k.1 < n) p more k)
 
 pub tags_are_files : (files : List SourceFile) (stmts : List Stmt) → AreFiles (length files) (tag_files files stmts)
 tags_are_files files stmts = more_points (length files) [] (flat_map (points_of files) stmts) (All-nil (λ k. k.1 < length files)) (all_points files stmts)

@@ -14,9 +14,10 @@ use Rattle.sv_compile.specs.TopLevel.{tops}
 use Rattle.sv_fragments.specs.declared.around.Tables.{Tables}
 use Rattle.sv_lower.specs.Does.{Makes}
 use Rattle.sv_lower.specs.Tops.{Tops}
-use Rattle.sv_slots.specs.Children.{Points, tag_files}
+use Rattle.sv_names.specs.NameMap.{Entries}
+use Rattle.sv_slots.specs.Children.{tag_files}
 
-pub component_from_parts : {E : Type 0} (bundle : Bundle) (c : Component) (told : CheckedComponent) (before after : Tables) (result : Result CodeComponent E) (given : List Given) (top : Tops) (sheet : Sheet) (children : Points)
+pub component_from_parts : {E : Type 0} (bundle : Bundle) (c : Component) (told : CheckedComponent) (before after : Tables) (result : Result CodeComponent E) (given : List Given) (top : Tops) (sheet : Sheet) (children : Entries)
     → given ≡ givens bundle.names bundle.files c.script.stmts → top ≡ tops bundle.names told.scopes.cells given → sheet ≡ sheets.sheet top given c.script.stmts told → children ≡ tag_files bundle.files c.script.stmts
     → Makes result (sheets.parts c sheet (record { tops = top; cells = told.scopes.cells; children = children }) [] before) after → Makes result (component bundle c told before) after
 unfolding component

@@ -83,7 +83,7 @@ abbrev pub spec_given : Table → List SourceFile → Origin → ImportName → 
 spec_given table files from spec = option_map (λ k. record { named = spec.local; known = k }) (import_of table files from spec.given.name)
 
 abbrev pub imported_layer : Table → List SourceFile → StmtLayer → List Given
-imported_layer table files (StmtKind-F.Import i) = filter_map (spec_given table files (origin_of files i.from)) i.specs
+imported_layer table files (StmtKind-F.Import i) = filter_map (spec_given table files (origin_of files i.from)) i.names
 imported_layer table files _ = []
 
 -- the names that a statement imports between braces, but for those that nothing gives

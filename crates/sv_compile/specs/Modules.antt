@@ -1,22 +1,17 @@
 -- The order in which module files run.
-use Rattle.std.specs.Prelude.{◌≡◌, ℕ, Bool, true, false, List, [], ◌∷◌, filter, slice_get}
+use Rattle.std.specs.Prelude.{◌≡◌, ℕ, Bool, false, List, [], ◌∷◌, filter, slice_get}
 use Rattle.std.specs.Option.{option_map_or}
-use Rattle.sv_ast.specs.declared.files.FileTree.{FileTree}
-use Rattle.sv_ast.specs.declared.files.FileTree.TheVariants as tree
 use Rattle.sv_ast.specs.declared.files.SourceFile.{SourceFile}
+use Rattle.sv_ast.specs.Files.{is_module}
 use Rattle.sv_imports.specs.Imports.{imports}
 use Rattle.sv_graph.specs.Visited.{IsVisited}
 use Rattle.sv_graph.specs.declared.outcome.Visited.{Visited}
 use Rattle.sv_graph.specs.declared.outcome.Visited.TheVariants as visited
 
-abbrev pub is_module : FileTree → Bool
-is_module (tree.Component c) = false
-is_module (tree.Module m) = true
-
 abbrev pub is_module_at : List SourceFile → ℕ → Bool
 is_module_at files n = option_map_or (λ source. is_module source.tree) (slice_get files n) false
 
--- the modules among the files that a visit of imports places; imports in a circle have no order
+-- the modules among the files that a visit of imports places; imports in a cycle have no order
 abbrev pub modules_in : List SourceFile → Visited → List ℕ
 modules_in files (visited.Order order) = filter (is_module_at files) order.items
 modules_in files (visited.Cycle cycle) = []

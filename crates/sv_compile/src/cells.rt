@@ -11,9 +11,9 @@ use std::alloc::Global;
 use sv_ast::{Decl, Ref, RefList, Stmt, StmtKind};
 use sv_base::{Name, NoMemory};
 use sv_code::{CellList, Known, Prop, Props, StoreCell, StoreCells};
+use sv_deps::numbers;
 use sv_lower::TopNames;
 use sv_names::{Distinct, name_of};
-use sv_deps::numbers;
 
 /// The cell that a name stands for.
 pub(crate) fn cell_of(tops: &TopNames, name: Ref) -> Option<u8>

@@ -8,7 +8,7 @@ ghost use Rattle.sv_compile.specs.declared.imports.TheConstants.{LIVES};
 
 use crate::constants::{Given, constant_number, place_in};
 use std::alloc::Global;
-use sv_ast::{Bundle, SourceFile, ImportName, Stmt, StmtKind};
+use sv_ast::{Bundle, ImportName, SourceFile, Stmt, StmtKind};
 use sv_base::built_in::LIFE_FUNCTIONS;
 use sv_base::{Name, Names, NoMemory};
 use sv_code::{Known, Life};
@@ -38,7 +38,7 @@ pub(crate) fn add_imported(
     match stmt.kind.get() {
         StmtKind::Import(import) => {
             let from = origin_of(bundle.files.as_slice(), import.from.as_str());
-            add_specs(alloc, given, bundle, from, import.specs.as_slice())
+            add_specs(alloc, given, bundle, from, import.names.as_slice())
         }
         _ => Ok(()),
     }

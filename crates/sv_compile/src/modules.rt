@@ -4,14 +4,14 @@ ghost use Rattle.sv_compile.specs.Modules as spec;
 
 use crate::imports::file_number;
 use std::alloc::Global;
-use sv_ast::{FileTree, SourceFile};
+use sv_ast::SourceFile;
 use sv_base::NoMemory;
 use sv_code::ModuleList;
-use sv_imports::import_links;
 use sv_graph::{Visited, visit};
+use sv_imports::import_links;
 
 /// Module files in the order in which they run: each behind those that it imports, in the order in which a visit of the first file and its
-/// imports ends with them. `NoMemory` comes at want of memory, or of a number below 2^16 for a file.
+/// imports ends with them. `NoMemory` comes where memory runs out, or of a number below 2^16 for a file.
 pub(crate) fn modules(alloc: Global, files: &[SourceFile]) -> Result<ModuleList, NoMemory>
     ensures { IfOk result (λ modules. spec.AreModules files.now modules) }
 {
@@ -59,7 +59,7 @@ fn is_module_at(files: &[SourceFile], n: usize) -> bool
     ensures { result ≡ spec.is_module_at files.now n }
 {
     match files.get(n) {
-        Some(source) => matches!(source.tree, FileTree::Module(_)),
+        Some(source) => source.tree.is_module(),
         None => false,
     }
 }

@@ -8,7 +8,7 @@ ghost use Rattle.sv_code.specs.Compiled.{IsCompiled};
 ghost use Rattle.sv_compile.specs.Compile as spec;
 ghost use Rattle.sv_compile.specs.Modules.{AreModules};
 ghost use Rattle.sv_compile.specs.Runs.{reactives};
-ghost use Rattle.sv_imports.specs.Imports.{statements_of};
+ghost use Rattle.sv_ast.specs.Files.{statements_of};
 ghost use Rattle.sv_lines.specs.Lines.{LinesAscend};
 ghost use Rattle.sv_lower.specs.Does.{Makes};
 
@@ -24,7 +24,7 @@ use sv_code::{
 };
 use sv_fragments::Tables;
 
-/// Compiles a checked program, of whose files the lines begin in order. `NoMemory` comes at want of memory, or of a number below 2^32 for a
+/// Compiles a checked program, of whose files the lines begin in order. `NoMemory` comes where memory runs out, or of a number below 2^32 for a
 /// function, a tag, a handler, a constant or a statement, or of one below 2^16 for a file.
 ///
 /// - Function 0 is `writable`. Functions and arrows follow through all files, in the order in which their bodies end; in a component those of

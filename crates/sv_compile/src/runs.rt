@@ -1,6 +1,5 @@
 // What the statements at the top of a script make of a component: its props and its reactive statements.
 ghost use Rattle.std.specs.Prelude.{◌≡◌, ◌≤◌, ◌<◌, ◌++◌, length, map, All, IfOk, OnOk};
-ghost use Rattle.sv_check.specs.Waiting.{is_reactive as spec_is_reactive};
 ghost use Rattle.sv_imports.specs.Given.{decl_names};
 ghost use Rattle.sv_slots.specs.Sheets.{all_props, prop_names as spec_prop_names};
 ghost use Rattle.sv_compile.specs.Runs as spec;
@@ -8,9 +7,10 @@ ghost use Rattle.sv_compile.specs.Runs as spec;
 use std::alloc::Global;
 use sv_ast::{Decl, Ref, RefList, Stmt, StmtKind};
 use sv_base::NoMemory;
+use sv_check::is_reactive;
 use sv_code::{Run, Runs};
-use sv_names::{assigned_names, read_names};
 use sv_deps::numbers;
+use sv_names::{assigned_names, read_names};
 
 // A reactive statement, and which statement of its script it is.
 #[derive(Clone, Copy)]
@@ -71,12 +71,6 @@ fn reactives<'a>(alloc: Global, stmts: &'a [Stmt]) -> Result<Vec<Reactive<'a>>, 
         }
     }
     Ok(list)
-}
-
-fn is_reactive(stmt: &Stmt) -> bool
-    ensures { result ≡ spec_is_reactive stmt.now }
-{
-    matches!(stmt.kind.get(), StmtKind::React(_))
 }
 
 // The place of a statement, where there is a number below 2^32 for it.

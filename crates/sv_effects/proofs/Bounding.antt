@@ -20,8 +20,10 @@ use Rattle.sv_names.specs.Distinct.{same_ref}
 use Rattle.sv_names.specs.Uses.{named}
 use Rattle.sv_base.specs.Names.{Table}
 use Rattle.sv_effects.specs.declared.functions.Function.{Function}
-use Rattle.sv_effects.specs.Functions.{Layer, StmtLayer, statements_of, arrow_layer, value_functions, decl_functions, stmt_layer, stmt_functions, file_functions, functions_from, functions}
-use Rattle.sv_effects.specs.Known.{Points, point_in, with_point, with_points, names_from, is_of, own, stmts_at, module_at, with_local, given_name, import_layer, stmt_imported, all_given, known}
+use Rattle.sv_ast.specs.Files.{statements_of}
+use Rattle.sv_effects.specs.Functions.{Layer, StmtLayer, arrow_layer, value_functions, decl_functions, stmt_layer, stmt_functions, file_functions, functions_from, functions}
+use Rattle.sv_names.specs.NameMap.{Entries, number_of, with_entry, with_entries}
+use Rattle.sv_effects.specs.Known.{names_from, is_of, own, stmts_at, module_at, with_local, given_name, import_layer, stmt_imported, all_given, known}
 
 all_flat : {X Y : Type 0} (P : Y → Type 0) (f : X → List Y) (xs : List X) → ((x : X) → All P (f x)) → All P (flat_map f xs)
 all_flat P f [] each = All-nil P
@@ -68,14 +70,14 @@ functions_in bundle fs count e c =
 abbrev Below : ℕ → Ref × ℕ → Type 0
 Below n k = k.1 < n
 
-with_below : (n : ℕ) (points : Points) (k : Ref × ℕ) (b : Bool) → All (Below n) points → k.1 < n → All (Below n) (cond b points (points ++ k ∷ []))
+with_below : (n : ℕ) (points : Entries) (k : Ref × ℕ) (b : Bool) → All (Below n) points → k.1 < n → All (Below n) (cond b points (points ++ k ∷ []))
 with_below n points k true a h = a
 with_below n points k false a h = All-push (Below n) points k a h
 
-all_with : (n : ℕ) (points more : Points) → All (Below n) points → All (Below n) more → All (Below n) (with_points points more)
+all_with : (n : ℕ) (points more : Entries) → All (Below n) points → All (Below n) more → All (Below n) (with_entries points more)
 all_with n points [] a m = a
 all_with n points (k ∷ more) a m =
-    all_with n (with_point points k) more (with_below n points k (is_some (point_in points k.0)) a (All-head (Below n) k more m)) (All-tail (Below n) k more m)
+    all_with n (with_entry points k) more (with_below n points k (is_some (number_of points k.0)) a (All-head (Below n) k more m)) (All-tail (Below n) k more m)
 
 some_names : (n : ℕ) (k : Ref × ℕ) (b : Bool) → k.1 < n → All (Below n) (cond b (k ∷ []) [])
 some_names n k true h = All-cons (Below n) k [] h (All-nil (Below n))
@@ -98,26 +100,26 @@ found_below : (n : ℕ) (b : Bool) (p : ℕ) (o : Option ℕ) → p < n → Some
 found_below n true p o h s = h
 found_below n false p o h s = s
 
-pub point_below : (n : ℕ) (points : Points) (name : Ref) → All (Below n) points → SomeBelow n (point_in points name)
+pub point_below : (n : ℕ) (points : Entries) (name : Ref) → All (Below n) points → SomeBelow n (number_of points name)
 point_below n [] name a = tt
-point_below n (k ∷ points) name a = found_below n (same_ref name k.0) k.1 (point_in points name) (All-head (Below n) k points a) (point_below n points name (All-tail (Below n) k points a))
+point_below n (k ∷ points) name a = found_below n (same_ref name k.0) k.1 (number_of points name) (All-head (Below n) k points a) (point_below n points name (All-tail (Below n) k points a))
 
 local_below : (n : ℕ) (s : ImportName) (o : Option ℕ) → SomeBelow n o → All (Below n) (with_local s o)
 local_below n s None h = All-nil (Below n)
 local_below n s (Some p) h = All-cons (Below n) (named s.local, p) [] h (All-nil (Below n))
 
-row_below : (n : ℕ) (given : List Points) (file : ℕ) → All (All (Below n)) given → All (Below n) (get_or given file [])
+row_below : (n : ℕ) (given : List Entries) (file : ℕ) → All (All (Below n)) given → All (Below n) (get_or given file [])
 row_below n given file a = elim (cases_lt file (length given)) [
   | inl inside ↦ All-get_or (All (Below n)) given file [] inside a
   | inr past ↦ subst (All (Below n)) (sym (get_or_past given file [] past)) (All-nil (Below n))
 ]
 
-given_below : (n : ℕ) (given : List Points) (file : Option ℕ) (s : ImportName) → All (All (Below n)) given → All (Below n) (given_name given file s)
+given_below : (n : ℕ) (given : List Entries) (file : Option ℕ) (s : ImportName) → All (All (Below n)) given → All (Below n) (given_name given file s)
 given_below n given None s a = All-nil (Below n)
 given_below n given (Some file) s a = local_below n s _ (point_below n (get_or given file []) (named s.given) (row_below n given file a))
 
-layer_below : (n : ℕ) (files : List SourceFile) (given : List Points) (layer : StmtLayer) → All (All (Below n)) given → All (Below n) (import_layer files given layer)
-layer_below n files given (StmtKind-F.Import i) a = all_flat (Below n) (given_name given (module_at files i.from)) i.specs (λ s. given_below n given (module_at files i.from) s a)
+layer_below : (n : ℕ) (files : List SourceFile) (given : List Entries) (layer : StmtLayer) → All (All (Below n)) given → All (Below n) (import_layer files given layer)
+layer_below n files given (StmtKind-F.Import i) a = all_flat (Below n) (given_name given (module_at files i.from)) i.names (λ s. given_below n given (module_at files i.from) s a)
 layer_below n files given _ a = All-nil (Below n)
 
 -- what is known in a file are functions
@@ -129,6 +131,6 @@ known_below bundle file =
     (all_flat (Below n) (stmt_imported bundle.files (all_given bundle)) (stmts_at bundle.files file) (λ s. layer_below n bundle.files (all_given bundle) (out-StmtKind s.kind) given))
 
 -- and so in all files
-pub all_below : (bundle : Bundle) (n count : ℕ) (table : List Points) → n ≡ length (functions bundle) → table ≡ map (known bundle) (range_with_len 0 count) → All (λ points. All (λ k. k.1 < n) points) table
+pub all_below : (bundle : Bundle) (n count : ℕ) (table : List Entries) → n ≡ length (functions bundle) → table ≡ map (known bundle) (range_with_len 0 count) → All (λ points. All (λ k. k.1 < n) points) table
 all_below bundle n count table e t =
     subst (λ z. All (All (Below n)) z) (sym t) (all_map (All (Below n)) (known bundle) (range_with_len 0 count) (λ j. subst (λ z. All (Below z) (known bundle j)) (sym e) (known_below bundle j)))

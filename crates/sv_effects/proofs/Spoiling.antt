@@ -11,7 +11,8 @@ use Rattle.sv_effects.specs.declared.functions.Function.{Function}
 use Rattle.sv_effects.specs.declared.stains.Calls.{Calls as Found}
 use Rattle.sv_effects.specs.Calls.{AreCalls}
 use Rattle.sv_effects.specs.Functions.{functions}
-use Rattle.sv_effects.specs.Known.{Points, names_without, known}
+use Rattle.sv_names.specs.NameMap.{Entries}
+use Rattle.sv_effects.specs.Known.{names_without, known}
 use Rattle.sv_effects.specs.Stains.{LeadsToStain, stained, calling, ArePure}
 use Rattle.sv_graph.specs.Links.{is_in, links_of, IsWhole}
 use Rattle.sv_graph.specs.Reached.{Leads, start, further, IsReached}
@@ -57,7 +58,7 @@ map_twice f g [] = refl
 map_twice f g (x ∷ xs) = ap (λ l. f (g x) ∷ l) (map_twice f g xs)
 
 -- the names of functions that no stained body is reached from
-pub are_pure : (bundle : Bundle) (found : Found) (links : List (List ℕ)) (points : List ℕ) (count : ℕ) (met told : List Bool) (table : List Points) (lists : List (List Ref)) → AreCalls bundle found → links ≡ found.callers.items → points ≡ found.stained.items
+pub are_pure : (bundle : Bundle) (found : Found) (links : List (List ℕ)) (points : List ℕ) (count : ℕ) (met told : List Bool) (table : List Entries) (lists : List (List Ref)) → AreCalls bundle found → links ≡ found.callers.items → points ≡ found.stained.items
     → IsReached (links_of links) points count met → told ≡ met → table ≡ map (known bundle) (range_with_len 0 (length bundle.files)) → lists ≡ map (names_without (λ p. slice_index_or told p false)) table → ArePure bundle lists
 are_pure bundle found links points count met told table lists a e s r same t l =
     let reached : IsReached (links_of found.callers.items) found.stained.items count met = subst (λ z. IsReached (links_of found.callers.items) z count met) s (subst (λ z. IsReached (links_of z) points count met) e r) in

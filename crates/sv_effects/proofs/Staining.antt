@@ -22,8 +22,10 @@ use Rattle.sv_effects.specs.declared.notes.Sign.TheVariants.{Reads, Sets, Calls,
 use Rattle.sv_effects.specs.declared.stains.Calls.{Calls as Found}
 use Rattle.sv_effects.specs.declared.top.Top.{Top}
 use Rattle.sv_effects.specs.Calls.{is_stain_in, points_from, calls_in, AreCalls}
-use Rattle.sv_effects.specs.Functions.{statements_of, functions}
-use Rattle.sv_effects.specs.Known.{Points, point_in, known, stmts_at}
+use Rattle.sv_ast.specs.Files.{statements_of}
+use Rattle.sv_effects.specs.Functions.{functions}
+use Rattle.sv_names.specs.NameMap.{Entries, number_of}
+use Rattle.sv_effects.specs.Known.{known, stmts_at}
 use Rattle.sv_effects.specs.Stains.{is_stain, is_stained, called, calls}
 use Rattle.sv_effects.specs.Top.{IsTop, is_conversion, is_variable, is_variable_in, is_free_call, is_free_in, variables, reactives, declared}
 use Rattle.sv_effects.proofs.Bounding.{SomeBelow, point_below, functions_in}
@@ -51,7 +53,7 @@ stain_same : (bundle : Bundle) (file : ℕ) (top : Top) (s : Sign) → IsTop (st
 stain_same bundle file top (Reads (Store name)) t = refl
 stain_same bundle file top (Reads (Plain name)) t = variable_same (stmts_at bundle.files file) top (Plain name) t
 stain_same bundle file top (Sets name) t = refl
-stain_same bundle file top (Calls name) t = ap (λ b. not (is_some (point_in (known bundle file) name) || b)) (free_same bundle.names (stmts_at bundle.files file) top name t)
+stain_same bundle file top (Calls name) t = ap (λ b. not (is_some (number_of (known bundle file) name) || b)) (free_same bundle.names (stmts_at bundle.files file) top name t)
 stain_same bundle file top (Hands name) t = refl
 stain_same bundle file top Breaks t = refl
 
@@ -71,10 +73,10 @@ zip_length R [] (y ∷ ys) a = absurd a
 zip_length R (x ∷ xs) [] a = absurd a
 zip_length R (x ∷ xs) (y ∷ ys) a = ap suc (zip_length R xs ys a.1)
 
-pub row_is : (f : ℕ → Points) (table : List Points) (n i : ℕ) (row : Points) → table ≡ map f (range_with_len 0 n) → i < n → row ≡ get_or table i row → row ≡ f i
+pub row_is : (f : ℕ → Entries) (table : List Entries) (n i : ℕ) (row : Entries) → table ≡ map f (range_with_len 0 n) → i < n → row ≡ get_or table i row → row ≡ f i
 row_is f table n i row e h r = r ∙ ap (λ t. get_or t i row) e ∙ get_or-map-range_with_len f 0 n i i row h (omega arith)
 
-pub row_within : (f : ℕ → Points) (table now : List Points) (n i : ℕ) → now ≡ table → table ≡ map f (range_with_len 0 n) → i < n → i < length now
+pub row_within : (f : ℕ → Entries) (table now : List Entries) (n i : ℕ) → now ≡ table → table ≡ map f (range_with_len 0 n) → i < n → i < length now
 row_within f table now n i d e h = omega (arith, ap length d, ap length e, length-map-range_with_len f 0 n, h)
 
 pub top_within : (files : List SourceFile) (tops now : List Top) (i : ℕ) → now ≡ tops → AllZip (λ source top. IsTop (statements_of source.tree) top) files tops → i < length files → i < length now
@@ -100,7 +102,7 @@ tops_more files tops new i source stmts top within is a s t n =
     subst (λ z. AllZip R z new) (sym whole) (subst (λ z. AllZip R (take i files ++ source ∷ []) z) (sym n) (zip_push R (take i files) tops source top a (subst (λ z. IsTop z top) s t)))
 
 -- the signs of a function are stains by the tables
-pub stained_is : (bundle : Bundle) (f : Function) (tops : List Top) (top : Top) (table : List Points) (row : Points) (signs : List Sign) → AllZip (λ source top. IsTop (statements_of source.tree) top) bundle.files tops → table ≡ map (known bundle) (range_with_len 0 (length bundle.files)) → f.file < length bundle.files
+pub stained_is : (bundle : Bundle) (f : Function) (tops : List Top) (top : Top) (table : List Entries) (row : Entries) (signs : List Sign) → AllZip (λ source top. IsTop (statements_of source.tree) top) bundle.files tops → table ≡ map (known bundle) (range_with_len 0 (length bundle.files)) → f.file < length bundle.files
     → top ≡ get_or tops f.file top → row ≡ get_or table f.file row → signs ≡ f.signs → list_any (is_stain_in bundle.names top row) signs ≡ is_stained bundle f
 stained_is bundle f tops top table row signs zipped t h at r s =
     let row_same : row ≡ known bundle f.file = row_is (known bundle) table (length bundle.files) f.file row t h r in
@@ -191,11 +193,11 @@ points_within test fs p h =
 got_within : (fs : List Function) (p : ℕ) (f : Function) → slice_get fs p ≡ Some f → p < length fs
 got_within fs p f g = elim (slice_get_cases fs p).1 [ inl there ↦ there.1 | inr past ↦ absurd (none_is f (sym past.1 ∙ g)) ]
 
-calls_same : (bundle : Bundle) (table : List Points) (f : Function) → table ≡ map (known bundle) (range_with_len 0 (length bundle.files)) → f.file < length bundle.files → calls_in table f ≡ calls bundle f
+calls_same : (bundle : Bundle) (table : List Entries) (f : Function) → table ≡ map (known bundle) (range_with_len 0 (length bundle.files)) → f.file < length bundle.files → calls_in table f ≡ calls bundle f
 calls_same bundle table f t h =
     ap (λ row. filter_map (called row) f.signs) (ap (λ z. get_or z f.file []) t ∙ get_or-map-range_with_len (known bundle) 0 (length bundle.files) f.file f.file [] h (omega arith))
 
-linked : (bundle : Bundle) (table : List Points) (p : ℕ) (f : Function) → table ≡ map (known bundle) (range_with_len 0 (length bundle.files)) → slice_get (functions bundle) p ≡ Some f
+linked : (bundle : Bundle) (table : List Entries) (p : ℕ) (f : Function) → table ≡ map (known bundle) (range_with_len 0 (length bundle.files)) → slice_get (functions bundle) p ≡ Some f
     → links_of (map (calls_in table) (functions bundle)) p ≡ calls bundle f
 linked bundle table p f t g =
     let fs = functions bundle in
@@ -204,14 +206,14 @@ linked bundle table p f t g =
     let file : f.file < length bundle.files = subst (λ (z : Function). z.file < length bundle.files) is (All-get_or (λ (z : Function). z.file < length bundle.files) fs p f within (functions_in bundle fs (length bundle.files) refl refl)) in
     get_or-map (calls_in table) fs p f [] within ∙ ap (calls_in table) is ∙ calls_same bundle table f t file
 
-link_within : (fs : List Function) (table : List Points) (p q : ℕ) → is_in q (links_of (map (calls_in table) fs) p) ≡ true → is_some (slice_get fs p) ≡ true
+link_within : (fs : List Function) (table : List Entries) (p q : ℕ) → is_in q (links_of (map (calls_in table) fs) p) ≡ true → is_some (slice_get fs p) ≡ true
 link_within fs table p q h = elim (slice_get_cases fs p).1 [
   | inl there ↦ ap is_some there.2
   | inr past ↦ absurd (false≢true (subst (λ z. is_in q z ≡ true) (get_or_past (map (calls_in table) fs) p [] (omega (arith, past.0, length-map fs (calls_in table)))) h))
 ]
 
 -- the tables tell which bodies are stained, and the callers
-pub are_calls : (bundle : Bundle) (fs : List Function) (table : List Points) (found : Found) → fs ≡ functions bundle → table ≡ map (known bundle) (range_with_len 0 (length bundle.files))
+pub are_calls : (bundle : Bundle) (fs : List Function) (table : List Entries) (found : Found) → fs ≡ functions bundle → table ≡ map (known bundle) (range_with_len 0 (length bundle.files))
     → found.stained.items ≡ points_from (is_stained bundle) 0 fs → length found.callers.items ≡ length fs → IsTurned (map (calls_in table) fs) found.callers.items → AreCalls bundle found
 are_calls bundle fs table found e t s size turned =
     let stains : found.stained.items ≡ points_from (is_stained bundle) 0 (functions bundle) = s ∙ ap (points_from (is_stained bundle) 0) e in
@@ -227,7 +229,7 @@ are_calls bundle fs table found e t s size turned =
     }
 
 -- one more function was noted as a caller
-pub callers_more : (table : List Points) (fs : List Function) (callers new : List (List ℕ)) (p : ℕ) (f : Function) (row : Points) (signs : List Sign) → p < length fs → f ≡ get_or fs p f → f.file < length table → row ≡ get_or table f.file row → signs ≡ f.signs
+pub callers_more : (table : List Entries) (fs : List Function) (callers new : List (List ℕ)) (p : ℕ) (f : Function) (row : Entries) (signs : List Sign) → p < length fs → f ≡ get_or fs p f → f.file < length table → row ≡ get_or table f.file row → signs ≡ f.signs
     → IsTurned (take p (map (calls_in table) fs)) callers → AddsLinks callers (filter_map (called row) signs) p new → IsTurned (take (p + 1) (map (calls_in table) fs)) new
 callers_more table fs callers new p f row signs within is inside r s t a =
     let own = filter_map (called row) signs in
@@ -243,7 +245,7 @@ as_list : (o : Option ℕ) → cons_option o [] ≡ option_to_list o
 as_list None = refl
 as_list (Some p) = refl
 
-called_more : (row : Points) (signs : List Sign) (i : ℕ) (d : Sign) → i < length signs → filter_map (called row) (take (i + 1) signs) ≡ filter_map (called row) (take i signs) ++ option_to_list (called row (get_or signs i d))
+called_more : (row : Entries) (signs : List Sign) (i : ℕ) (d : Sign) → i < length signs → filter_map (called row) (take (i + 1) signs) ≡ filter_map (called row) (take i signs) ++ option_to_list (called row (get_or signs i d))
 called_more row signs i d within =
     ap (filter_map (called row)) (take_more signs i d within) ∙ filter_map-append (called row) (take i signs) (get_or signs i d ∷ [])
     ∙ ap (λ l. filter_map (called row) (take i signs) ++ l) (as_list (called row (get_or signs i d)))
@@ -259,17 +261,17 @@ adds_then a b c first second to f s = record {
 }
 
 -- one more sign was noted
-pub noted_more : (old now new : List (List ℕ)) (row : Points) (signs : List Sign) (i to : ℕ) (d : Sign) → i < length signs → AddsLinks old (filter_map (called row) (take i signs)) to now → AddsLinks now (option_to_list (called row (get_or signs i d))) to new
+pub noted_more : (old now new : List (List ℕ)) (row : Entries) (signs : List Sign) (i to : ℕ) (d : Sign) → i < length signs → AddsLinks old (filter_map (called row) (take i signs)) to now → AddsLinks now (option_to_list (called row (get_or signs i d))) to new
     → AddsLinks old (filter_map (called row) (take (i + 1) signs)) to new
 noted_more old now new row signs i to d within a b =
     subst (λ z. AddsLinks old z to new) (sym (called_more row signs i d within)) (adds_then old now new (filter_map (called row) (take i signs)) (option_to_list (called row (get_or signs i d))) to a b)
 
 -- a sign that calls a function
-pub noted_some : (old new : List (List ℕ)) (row : Points) (s : Sign) (at to : ℕ) → called row s ≡ Some at → at < length old → new ≡ set old at (links_of old at ++ to ∷ []) → AddsLinks old (option_to_list (called row s)) to new
+pub noted_some : (old new : List (List ℕ)) (row : Entries) (s : Sign) (at to : ℕ) → called row s ≡ Some at → at < length old → new ≡ set old at (links_of old at ++ to ∷ []) → AddsLinks old (option_to_list (called row s)) to new
 noted_some old new row s at to e within n = subst (λ z. AddsLinks old (option_to_list z) to new) (sym e) (adds-more old old new [] at to (adds-none old to) within n)
 
 -- what a sign calls is there
-pub called_within : (n : ℕ) (row : Points) (s : Sign) (at : ℕ) → All (λ k. k.1 < n) row → called row s ≡ Some at → at < n
+pub called_within : (n : ℕ) (row : Entries) (s : Sign) (at : ℕ) → All (λ k. k.1 < n) row → called row s ≡ Some at → at < n
 called_within n row (Calls name) at a e = subst (SomeBelow n) e (point_below n row name a)
 called_within n row (Hands name) at a e = subst (SomeBelow n) e (point_below n row name a)
 called_within n row _ at a e = absurd (let no : None ≡ Some at = e in cc)

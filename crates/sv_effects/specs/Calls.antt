@@ -10,18 +10,18 @@ use Rattle.sv_effects.specs.declared.notes.Sign.TheVariants.{Reads, Sets, Calls,
 use Rattle.sv_effects.specs.declared.stains.Calls.{Calls as Found}
 use Rattle.sv_effects.specs.declared.top.Top.{Top}
 use Rattle.sv_effects.specs.Functions.{functions}
-use Rattle.sv_effects.specs.Known.{Points, point_in}
+use Rattle.sv_names.specs.NameMap.{Entries, number_of}
 use Rattle.sv_effects.specs.Stains.{is_stained, called, calls}
 use Rattle.sv_effects.specs.Top.{is_variable_in, is_free_in}
 use Rattle.sv_graph.specs.Links.{is_in, links_of}
 
 -- a sign stains a body where the top level and the known functions are these
-abbrev pub is_stain_in : Table → Top → Points → Sign → Bool
+abbrev pub is_stain_in : Table → Top → Entries → Sign → Bool
 is_stain_in table top points (Reads (Store name)) = true
 is_stain_in table top points (Reads (Plain name)) = is_variable_in top (Plain name)
 is_stain_in table top points (Sets name) = true
-is_stain_in table top points (Calls name) = not (is_some (point_in points name) || is_free_in table top name)
-is_stain_in table top points (Hands name) = not (is_some (point_in points name))
+is_stain_in table top points (Calls name) = not (is_some (number_of points name) || is_free_in table top name)
+is_stain_in table top points (Hands name) = not (is_some (number_of points name))
 is_stain_in table top points Breaks = true
 
 -- the numbers of those of some functions that pass a test, where the first has a number
@@ -30,7 +30,7 @@ points_from test p [] = []
 points_from test p (f ∷ fs) = (if test f then p ∷ [] else []) ++ points_from test (suc p) fs
 
 -- the functions that a body calls, where these are known in the files
-abbrev pub calls_in : List Points → Function → List ℕ
+abbrev pub calls_in : List Entries → Function → List ℕ
 calls_in known f = filter_map (called (slice_index_or known f.file [])) f.signs
 
 -- the functions with stained bodies, and for each function its callers

@@ -3,8 +3,6 @@
 use Rattle.std.specs.Prelude.{ℕ, suc, Bool, List, [], ◌∷◌, ◌++◌, Option, None, Some}
 use Rattle.std.specs.List.{flat_map}
 use Rattle.sv_ast.specs.declared.files.Bundle.{Bundle}
-use Rattle.sv_ast.specs.declared.files.FileTree.{FileTree}
-use Rattle.sv_ast.specs.declared.files.FileTree.TheVariants as tree
 use Rattle.sv_ast.specs.declared.files.SourceFile.{SourceFile}
 use Rattle.sv_ast.specs.declared.script_tree.Arm.{Arm}
 use Rattle.sv_ast.specs.declared.script_tree.Body.{Body}
@@ -16,6 +14,7 @@ use Rattle.sv_ast.specs.declared.script_tree.Field.{Field}
 use Rattle.sv_ast.specs.declared.script_tree.Link.{Link}
 use Rattle.sv_ast.specs.declared.script_tree.Stmt.{Stmt}
 use Rattle.sv_ast.specs.declared.script_tree.StmtKind.{StmtKind, StmtKind-F, out-StmtKind}
+use Rattle.sv_ast.specs.Files.{statements_of}
 use Rattle.sv_base.specs.declared.names.Name.{Name}
 use Rattle.sv_base.specs.Names.{Table}
 use Rattle.sv_effects.specs.declared.functions.Function.{Function}
@@ -27,11 +26,6 @@ Layer = ExprKind-F Body Entry ExprKind Field StmtKind Arm Decl Expr Link Stmt
 
 abbrev pub StmtLayer : Type 0
 StmtLayer = StmtKind-F Body Entry ExprKind Field StmtKind Arm Decl Expr Link Stmt
-
--- the statements of a file
-abbrev pub statements_of : FileTree → List Stmt
-statements_of (tree.Component c) = c.script.stmts
-statements_of (tree.Module m) = m.script.stmts
 
 -- a constant, by the form of its value
 abbrev pub arrow_layer : Table → ℕ → Name → Bool → Expr → Layer → List Function

@@ -11,7 +11,8 @@ use Rattle.sv_effects.specs.declared.functions.Function.{Function}
 use Rattle.sv_effects.specs.declared.notes.Sign.{Sign}
 use Rattle.sv_effects.specs.declared.notes.Sign.TheVariants.{Reads, Sets, Calls, Hands, Breaks}
 use Rattle.sv_effects.specs.Functions.{functions}
-use Rattle.sv_effects.specs.Known.{Points, point_in, names_without, known, stmts_at}
+use Rattle.sv_names.specs.NameMap.{Entries, number_of}
+use Rattle.sv_effects.specs.Known.{names_without, known, stmts_at}
 use Rattle.sv_effects.specs.Top.{is_variable, is_free_call}
 use Rattle.sv_graph.specs.Links.{is_in}
 
@@ -20,17 +21,17 @@ abbrev pub is_stain : Bundle → ℕ → Sign → Bool
 is_stain bundle file (Reads (Store name)) = true
 is_stain bundle file (Reads (Plain name)) = is_variable (stmts_at bundle.files file) (Plain name)
 is_stain bundle file (Sets name) = true
-is_stain bundle file (Calls name) = not (is_some (point_in (known bundle file) name) || is_free_call bundle.names (stmts_at bundle.files file) name)
-is_stain bundle file (Hands name) = not (is_some (point_in (known bundle file) name))
+is_stain bundle file (Calls name) = not (is_some (number_of (known bundle file) name) || is_free_call bundle.names (stmts_at bundle.files file) name)
+is_stain bundle file (Hands name) = not (is_some (number_of (known bundle file) name))
 is_stain bundle file Breaks = true
 
 abbrev pub is_stained : Bundle → Function → Bool
 is_stained bundle f = list_any (is_stain bundle f.file) f.signs
 
 -- the function that a sign calls, or hands to a call on a list
-abbrev pub called : Points → Sign → Option ℕ
-called names (Calls name) = point_in names name
-called names (Hands name) = point_in names name
+abbrev pub called : Entries → Sign → Option ℕ
+called names (Calls name) = number_of names name
+called names (Hands name) = number_of names name
 called names _ = None
 
 -- the functions that a body calls or hands to a call on a list

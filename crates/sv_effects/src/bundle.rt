@@ -1,19 +1,20 @@
 // The names of pure functions.
 ghost use Rattle.std.specs.Prelude.{◌≡◌, ◌<◌, IfOk, All, false, length, map, slice_index_or};
-ghost use Rattle.sv_effects.specs.Known.{names_without};
+ghost use Rattle.sv_effects.specs.Known.{names_without as spec_names_without};
 ghost use Rattle.sv_effects.specs.Stains.{ArePure};
 
 use crate::functions::functions_of;
-use crate::known::{Known, known_of};
+use crate::known::{known_of, names_without};
 use crate::stains::calls_of;
 use std::alloc::Global;
 use sv_ast::{Bundle, RefList};
 use sv_base::NoMemory;
-use sv_list::Items;
 use sv_graph::reached;
+use sv_list::Items;
+use sv_names::NameMap;
 
 /// For each file of a bundle, by its place there, the names that stand for pure functions in it, each once: its own functions in the
-/// order of the text, and behind them those that it imports, by their local names. `NoMemory` comes at want of memory, or of a
+/// order of the text, and behind them those that it imports, by their local names. `NoMemory` comes where memory runs out, or of a
 /// number below 2^32 for each function.
 ///
 /// A function may be pure if it is declared at the top level, by `function` or as a constant whose value is an arrow, or imported
@@ -40,13 +41,17 @@ pub fn pure_functions(alloc: Global, bundle: &Bundle) -> Result<Items<RefList>, 
 }
 
 // The names in each file that stand for functions that aren't spoiled.
-fn pure_names(alloc: Global, known: &[Known], spoiled: &[bool]) -> Result<Items<RefList>, NoMemory>
+fn pure_names(
+    alloc: Global,
+    known: &[NameMap],
+    spoiled: &[bool],
+) -> Result<Items<RefList>, NoMemory>
     requires { All (λ points. All (λ k. k.1 < length spoiled.now) points) known.now }
-    ensures { IfOk result (λ lists. lists ≡ map (names_without (λ p. slice_index_or spoiled.now p false)) known.now) }
+    ensures { IfOk result (λ lists. lists ≡ map (spec_names_without (λ p. slice_index_or spoiled.now p false)) known.now) }
 {
     let mut lists = Items::new(alloc);
     for names in known {
-        lists.push(names.names_without(alloc, spoiled)?)?;
+        lists.push(names_without(alloc, names, spoiled)?)?;
     }
     Ok(lists)
 }

@@ -5,7 +5,7 @@ ghost use Rattle.sv_effects.specs.Functions as spec;
 use crate::notes::Sign;
 use crate::signs::{signs_of_arrow, signs_of_function};
 use std::alloc::Global;
-use sv_ast::{Bundle, Decl, ExprKind, FileTree, SourceFile, Stmt, StmtKind};
+use sv_ast::{Bundle, Decl, ExprKind, SourceFile, Stmt, StmtKind};
 use sv_base::{Name, Names, NoMemory};
 use sv_list::Items;
 
@@ -39,20 +39,10 @@ fn add_file(
 ) -> Result<(), NoMemory>
     ensures { OnOk result (functions.new ≡ functions.old ++ spec.file_functions names.now file source.now) }
 {
-    for stmt in statements_of(&source.tree) {
+    for stmt in source.tree.statements() {
         add_stmt(alloc, functions, names, file, stmt)?;
     }
     Ok(())
-}
-
-/// The statements of a file.
-pub(crate) fn statements_of(tree: &FileTree) -> &[Stmt]
-    ensures { result.now ≡ spec.statements_of tree.now }
-{
-    match tree {
-        FileTree::Component(of) => of.script.stmts.as_slice(),
-        FileTree::Module(of) => of.script.stmts.as_slice(),
-    }
 }
 
 fn add_stmt(

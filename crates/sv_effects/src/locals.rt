@@ -4,7 +4,7 @@ ghost use Rattle.sv_names.specs.Distinct.{with_names};
 ghost use Rattle.sv_names.specs.Uses.{named, imported};
 ghost use Rattle.sv_effects.specs.Signs.{optional, together, body_part, decl_part, stmt_part, stmt_kind_part};
 
-use sv_ast::{Body, Decl, Import, Named, Ref, ImportName, Stmt, StmtKind};
+use sv_ast::{Body, Decl, Import, ImportName, Named, Ref, Stmt, StmtKind};
 use sv_base::NoMemory;
 use sv_names::Distinct;
 
@@ -49,7 +49,7 @@ fn declare_import(locals: &mut Distinct, import: &Import) -> Result<(), NoMemory
     if let Some(whole) = &import.whole {
         declare(locals, whole)?;
     }
-    declare_specs(locals, import.specs.as_slice())
+    declare_specs(locals, import.names.as_slice())
 }
 
 // Declares what a statement declares in the scope round it.

@@ -2,22 +2,23 @@
 ghost use Rattle.std.specs.Prelude.{◌≡◌, ◌∷◌, ◌++◌, ◌<◌, ◌^◌, [], IfOk, OnOk, All, length, map, slice_index_or, slice_set, if◌then◌else◌};
 ghost use Rattle.std.specs.List.{AllZip, list_any, filter_map, range_with_len};
 ghost use Rattle.std.specs.Option.{option_to_list};
+ghost use Rattle.sv_ast.specs.Files.{statements_of};
 ghost use Rattle.sv_effects.specs.Calls as spec;
-ghost use Rattle.sv_effects.specs.Functions.{functions as all_functions, statements_of as spec_statements};
+ghost use Rattle.sv_effects.specs.Functions.{functions as all_functions};
 ghost use Rattle.sv_effects.specs.Known.{known as all_known};
 ghost use Rattle.sv_effects.specs.Stains.{called as spec_called, is_stained as has_stain};
 ghost use Rattle.sv_effects.specs.Top.{IsTop};
 ghost use Rattle.sv_graph.specs.Links.{AddsLinks, IsTurned};
 
-use crate::functions::{Function, statements_of};
-use crate::known::Known;
+use crate::functions::Function;
 use crate::notes::Sign;
 use crate::top::Top;
 use std::alloc::Global;
 use sv_ast::{Bundle, Ref};
 use sv_base::{Names, NoMemory};
-use sv_list::Items;
 use sv_graph::unlinked;
+use sv_list::Items;
+use sv_names::NameMap;
 
 /// The functions whose bodies are stained, by number, and for each function those that call it.
 #[derive(Drop)]
@@ -31,7 +32,7 @@ pub(crate) fn calls_of(
     alloc: Global,
     bundle: &Bundle,
     functions: &[Function],
-    known: &[Known],
+    known: &[NameMap],
 ) -> Result<Calls, NoMemory>
     requires functions { functions.now ≡ all_functions bundle.now }
     requires few { length functions.now < 2 ^ 32 }
@@ -48,7 +49,7 @@ fn stained_of(
     alloc: Global,
     bundle: &Bundle,
     functions: &[Function],
-    known: &[Known],
+    known: &[NameMap],
 ) -> Result<Vec<u32>, NoMemory>
     requires functions { functions.now ≡ all_functions bundle.now }
     requires few { length functions.now < 2 ^ 32 }
@@ -75,19 +76,19 @@ fn push_if(points: &mut Vec<u32>, is_wanted: bool, point: u32) -> Result<(), NoM
 
 // What the top levels of the files declare.
 fn tops_of(alloc: Global, bundle: &Bundle) -> Result<Vec<Top>, NoMemory>
-    ensures { IfOk result (λ tops. AllZip (λ source top. IsTop (spec_statements source.tree) top) bundle.now.files tops.items) }
+    ensures { IfOk result (λ tops. AllZip (λ source top. IsTop (statements_of source.tree) top) bundle.now.files tops.items) }
 {
     let files = bundle.files.as_slice();
     let mut tops = Vec::new(alloc);
     for source in files {
-        tops.push(Top::new(alloc, statements_of(&source.tree))?)?;
+        tops.push(Top::new(alloc, source.tree.statements())?)?;
     }
     Ok(tops)
 }
 
 // Whether the body of a function is stained.
-fn is_stained(bundle: &Bundle, tops: &[Top], known: &[Known], function: &Function) -> bool
-    requires tops { AllZip (λ source top. IsTop (spec_statements source.tree) top) bundle.now.files tops.now }
+fn is_stained(bundle: &Bundle, tops: &[Top], known: &[NameMap], function: &Function) -> bool
+    requires tops { AllZip (λ source top. IsTop (statements_of source.tree) top) bundle.now.files tops.now }
     requires known { known.now ≡ map (all_known bundle.now) (range_with_len 0 (length bundle.now.files)) }
     requires file { function.now.file < length bundle.now.files }
     requires in_tops { function.now.file < length tops.now }
@@ -103,7 +104,7 @@ fn is_stained(bundle: &Bundle, tops: &[Top], known: &[Known], function: &Functio
     )
 }
 
-fn is_any_stain(names: &Names, top: &Top, known: &Known, signs: &[Sign]) -> bool
+fn is_any_stain(names: &Names, top: &Top, known: &NameMap, signs: &[Sign]) -> bool
     ensures { result ≡ list_any (spec.is_stain_in names.now top.now known.now) signs.now }
 {
     for sign in signs {
@@ -114,7 +115,7 @@ fn is_any_stain(names: &Names, top: &Top, known: &Known, signs: &[Sign]) -> bool
     false
 }
 
-fn is_stain(names: &Names, top: &Top, known: &Known, sign: Sign) -> bool
+fn is_stain(names: &Names, top: &Top, known: &NameMap, sign: Sign) -> bool
     ensures { result ≡ spec.is_stain_in names.now top.now known.now sign }
 {
     match sign {
@@ -129,7 +130,7 @@ fn is_stain(names: &Names, top: &Top, known: &Known, sign: Sign) -> bool
 fn callers_of(
     alloc: Global,
     functions: &[Function],
-    known: &[Known],
+    known: &[NameMap],
 ) -> Result<Vec<Items<u32>>, NoMemory>
     requires few { length functions.now < 2 ^ 32 }
     requires files { All (λ f. f.file < length known.now) functions.now }
@@ -149,7 +150,7 @@ fn callers_of(
 // Notes a function as a caller of all that its signs call.
 fn note_calls(
     callers: &mut Vec<Items<u32>>,
-    known: &Known,
+    known: &NameMap,
     signs: &[Sign],
     point: u32,
 ) -> Result<(), NoMemory>
@@ -166,7 +167,7 @@ fn note_calls(
 // Notes a function as a caller of what one sign calls.
 fn note_call(
     callers: &mut Vec<Items<u32>>,
-    known: &Known,
+    known: &NameMap,
     sign: Sign,
     point: u32,
 ) -> Result<(), NoMemory>
@@ -175,7 +176,7 @@ fn note_call(
     ensures callers { OnOk result (AddsLinks callers.old.items (option_to_list (spec_called known.now sign)) point callers.new.items) }
 {
     match called(known, sign) {
-        Some(of) => add_caller(callers, of as usize, point),
+        Some(of) => add_caller(callers, of, point),
         None => Ok(()),
     }
 }
@@ -190,7 +191,7 @@ fn add_caller(callers: &mut Vec<Items<u32>>, of: usize, point: u32) -> Result<()
     Ok(())
 }
 
-fn called(known: &Known, sign: Sign) -> Option<u32>
+fn called(known: &NameMap, sign: Sign) -> Option<usize>
     ensures { result ≡ spec_called known.now sign }
 {
     match sign {

@@ -12,9 +12,11 @@ ghost use Rattle.sv_eval.specs.Quotient.{ratio_of};
 ghost use Rattle.sv_code.specs.declared.known.BuiltIn.TheVariants as console;
 
 use crate::listeners::dispatch;
+use crate::lookups::{
+    Call, Quotient, Visit, built_of, has_owner, quotient_of, rounds_of, start_of,
+};
 use crate::statements::run_all;
 use crate::values::{eval, eval_all, eval_links};
-use crate::lookups::{Call, Quotient, Visit, built_of, has_owner, quotient_of, rounds_of, start_of};
 use sv_base::Span;
 use sv_code::{BuiltIn, Code, CodeKind, Function, FunctionBody, Known, Method, Property};
 use sv_meaning::{

@@ -1,15 +1,15 @@
 //! The evaluator: expressions, statements, calls, and the listeners that a dispatched event reaches. Each function answers what the definitions
-//! of `sv_meaning` say of its code, or want of memory.
+//! of `sv_meaning` say of its code, or `NoMemory`.
 #![tactic(auto)]
 
 mod calls;
 mod listeners;
 mod literals;
+mod lookups;
 mod statements;
 mod values;
-mod lookups;
 
 pub use calls::call_value;
 pub use listeners::{Dispatched, eval_part, tell};
-pub use statements::{declare_all, run};
+pub use statements::run;
 pub use values::{eval, eval_or};

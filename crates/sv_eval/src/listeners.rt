@@ -9,8 +9,8 @@ ghost use Rattle.sv_meaning.specs.Listeners.{told, onward, heard_by, heard_attr,
 ghost use Rattle.sv_meaning.specs.Parts.{part_value};
 
 use crate::calls::call_value;
-use crate::values::eval;
 use crate::lookups::{handler_of, listens_to};
+use crate::values::eval;
 use std::alloc::Global;
 use sv_base::{Span, Text};
 use sv_code::{Code, FragAttr, Part, Program};

@@ -7,8 +7,8 @@ ghost use Rattle.sv_meaning.specs.Gives.{Gives, flow_of};
 ghost use Rattle.sv_meaning.specs.Outcome.{Next};
 ghost use Rattle.sv_meaning.specs.Statements.{does, in_order, first_of, scoped, for_step, each_step, turns, over_list, item_turns, item_turn, otherwise};
 
-use crate::values::{eval, eval_or, eval_test};
 use crate::lookups::takes_step;
+use crate::values::{eval, eval_or, eval_test};
 use sv_base::{Name, Span};
 use sv_code::{Code, CodeArm, CodeDecl, CodeStmt, CodeStmtKind};
 use sv_meaning::{Context, End, EvalError, Locals, count, declare, fault};
@@ -165,7 +165,7 @@ fn run_block(
 
 /// Names that are declared together get their values, one after another.
 #[cycle(eval)]
-pub fn declare_all(
+pub(crate) fn declare_all(
     context: &Context,
     world: &mut World,
     locals: &mut Locals,

@@ -41,7 +41,7 @@ use Rattle.sv_deps.specs.Looks.{both, read, let_names, attrs as look_at, content
 use Rattle.sv_deps.specs.Reading.{reading}
 use Rattle.sv_scopes.specs.Attributes.{is_slotted}
 use Rattle.sv_scopes.specs.declared.scope.TheConstants.{VIEW}
-use Rattle.sv_slots.specs.Children.{Points, file_of}
+use Rattle.sv_names.specs.NameMap.{Entries, number_of}
 use Rattle.sv_names.specs.Distinct.{same_ref}
 use Rattle.sv_white.specs.declared.pieces.Piece.TheVariants.{Words, Apart, Other}
 use Rattle.sv_white.specs.White.{kept}
@@ -229,10 +229,10 @@ module _ (sizes : List Size) (file : ℕ) (around : Around) (fits : Fits sizes f
   this_or_that true this that h k = h
   this_or_that false this that h k = k
 
-  file_there : (points : Points) (name : Ref) → All (λ k. k.1 < length sizes) points → unwrap_or (file_of points name) 0 < length sizes
+  file_there : (points : Entries) (name : Ref) → All (λ k. k.1 < length sizes) points → unwrap_or (number_of points name) 0 < length sizes
   file_there [] name h = fits.first
   file_there (k ∷ points) name h =
-      this_or_that (same_ref name k.0) k.1 (file_of points name) (All-head (λ k. k.1 < length sizes) k points h)
+      this_or_that (same_ref name k.0) k.1 (number_of points name) (All-head (λ k. k.1 < length sizes) k points h)
       (file_there points name (All-tail (λ k. k.1 < length sizes) k points h))
 
   tag_there : (span : Span) (name : Name) (own : List LetName) (f : Filled) (s : Tables) → There s (of_filled f) → There s (of_tag (tag_of around span name own f))

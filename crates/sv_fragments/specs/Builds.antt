@@ -4,14 +4,14 @@ use Rattle.sv_ast.specs.declared.names.Ref.{Ref}
 use Rattle.sv_lower.specs.Does.{Does}
 use Rattle.sv_lower.specs.Lower.{Lowers}
 use Rattle.sv_lower.specs.Tops.{Tops}
-use Rattle.sv_slots.specs.Children.{Points}
+use Rattle.sv_names.specs.NameMap.{Entries}
 use Rattle.sv_fragments.specs.declared.around.Tables.{Tables}
 
 -- a component, as its markup sees it: what names stand for at the top of its file, its cells, and the files that the names of its tags stand for
 pub record Around : Type 0 where
   pub tops : Tops
   pub cells : List Ref
-  pub children : Points
+  pub children : Entries
 
 -- what is made in a component, inside scopes of some locals
 abbrev pub Builds : Type 0 → Type 0

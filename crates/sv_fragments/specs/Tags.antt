@@ -16,7 +16,7 @@ use Rattle.sv_deps.specs.Reading.{reading}
 use Rattle.sv_scopes.specs.Attributes.{is_slotted, lets as declared_lets}
 use Rattle.sv_scopes.specs.Parts.{names_of}
 use Rattle.sv_scopes.specs.declared.scope.TheConstants.{VIEW}
-use Rattle.sv_slots.specs.Children.{Points, file_of}
+use Rattle.sv_names.specs.NameMap.{Entries, number_of}
 use Rattle.sv_white.specs.declared.pieces.Piece.TheVariants.{Apart, Other}
 use Rattle.sv_fragments.specs.declared.tags.Filled.{Filled}
 use Rattle.sv_lower.specs.Does.{just, followed, of_one, of_two, within}
@@ -64,8 +64,8 @@ filled form list children = of_two (λ xs made. record { attrs = xs; content = m
 -- ---- component tags
 
 -- the file that the name of a component's tag stands for, or the first one
-abbrev pub file_at : Points → Name → ℕ
-file_at children name = unwrap_or (file_of children (Plain name)) 0
+abbrev pub file_at : Entries → Name → ℕ
+file_at children name = unwrap_or (number_of children (Plain name)) 0
 
 abbrev pub tag_of : Around → Span → Name → List LetName → Filled → Tag
 tag_of around span name own f =

@@ -5,7 +5,7 @@ use std::alloc::Global;
 use sv_ast::Ref;
 use sv_code::{Functions, Handlers, Tags};
 use sv_lower::TopNames;
-use sv_slots::Children;
+use sv_names::NameMap;
 
 /// A component, as its markup sees it: what names stand for at the top of its file; its cells, at most 256; and the files that the names of
 /// its tags stand for. What is made takes its memory from `alloc`.
@@ -14,7 +14,7 @@ pub struct Around<'a> {
     pub alloc: Global,
     pub tops: &'a TopNames,
     pub cells: &'a [Ref],
-    pub children: &'a Children,
+    pub children: &'a NameMap,
     pub ghost few: { length cells.now ≤ 256 },
 }
 

@@ -2,7 +2,7 @@
 ghost use Rattle.std.specs.Prelude.{◌≡◌, ◌++◌, map, option_map, IfOk, OnOk};
 ghost use Rattle.std.specs.List.{flat_map};
 ghost use Rattle.sv_names.specs.Locals.{names_of};
-ghost use Rattle.sv_scopes.specs.Attributes.{past as spec_past, given_part};
+ghost use Rattle.sv_scopes.specs.Attributes.{given_part};
 ghost use Rattle.sv_fragments.specs.Around.{seen};
 ghost use Rattle.sv_fragments.specs.Attributes as spec;
 ghost use Rattle.sv_lower.specs.Does.{Makes, each};
@@ -11,12 +11,13 @@ use crate::around::{Around, Tables};
 use crate::parts::{optional_part, part};
 use std::alloc::Global;
 use sv_ast::{AttrKind, AttrPart, AttrValue, Expr, ExprKind, Ref, TagAttr};
-use sv_base::{Name, NoMemory, Span};
+use sv_base::{Name, NoMemory};
 use sv_code::{
     CellList, FragAttr, FragAttrs, FragValue, FragValuePart, FragValueParts, Handler, LetName,
     LetNames, Locals, Part, Reading,
 };
 use sv_names::LocalScope;
+use sv_scopes::past;
 
 /// What is made of the attributes and directives of a tag.
 pub(crate) fn attrs_of(
@@ -217,16 +218,6 @@ fn directive(
             let e = Expr::new(around.alloc, past(front, of.span), name)?;
             part(tables, around, locals, &e)
         }
-    }
-}
-
-// A span without some bytes at its front. Places end below 2^32.
-fn past(count: u32, span: Span) -> Span
-    ensures { result ≡ spec_past count span }
-{
-    Span {
-        from: span.from.saturating_add(count),
-        ..span
     }
 }
 

@@ -12,9 +12,9 @@ use std::alloc::Global;
 use sv_ast::{Expr, Ref, RefList};
 use sv_base::NoMemory;
 use sv_code::Part;
+use sv_deps::reading;
 use sv_lower::{Inside, lower_expr};
 use sv_names::{Distinct, LocalScope, free_names};
-use sv_deps::reading;
 
 /// The part of an expression, which looks at the names that stand free in it.
 pub(crate) fn part(

@@ -16,11 +16,10 @@ use std::alloc::Global;
 use sv_ast::{Markup, Ref, TagAttr};
 use sv_base::{Name, NoMemory, Span, Text};
 use sv_code::{Frag, FragAttrs, Frags, LetNames, Tag};
-use sv_list::Boxed;
-use sv_names::{Distinct, LocalScope};
 use sv_deps::{looked_at, reading, tag_looks};
+use sv_list::Boxed;
+use sv_names::{Distinct, LocalScope, NameMap};
 use sv_scopes::{VIEW, is_slotted, let_names};
-use sv_slots::Children;
 
 /// The form of a tag, with its name.
 #[derive(Clone, Copy)]
@@ -227,7 +226,7 @@ fn tag_of(
 }
 
 // The file that the name of a component's tag stands for, where its number is below 2^16.
-fn file_at(children: &Children, name: Name) -> Result<u16, NoMemory>
+fn file_at(children: &NameMap, name: Name) -> Result<u16, NoMemory>
     ensures { IfOk result (λ file. file ≡ spec.file_at children.now name) }
 {
     match u16::try_from(children.get(Ref::Plain(name)).unwrap_or(0)) {

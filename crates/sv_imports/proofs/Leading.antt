@@ -13,7 +13,8 @@ use Rattle.sv_graph.specs.Links.{is_in, links_of, IsWhole}
 use Rattle.sv_graph.specs.Reached.{Leads, IsReached}
 use Rattle.sv_graph.specs.Search.{met_at}
 use Rattle.sv_graph.proofs.Points.{in_cons}
-use Rattle.sv_imports.specs.Imports.{StmtLayer, statements_of, name_in, file_of_name, target_layer, target, targets, imports}
+use Rattle.sv_ast.specs.Files.{statements_of, name_in}
+use Rattle.sv_imports.specs.Imports.{StmtLayer, file_of_name, target_layer, target, targets, imports}
 use Rattle.sv_imports.specs.Table.{leads_in, IsTable}
 
 -- ---- tables

@@ -1,4 +1,4 @@
--- Files that import one another in a circle: an import is part of one where the file that it names leads back, by any number of
+-- Files that import one another in a cycle: an import is part of one where the file that it names leads back, by any number of
 -- imports, to the file that it stands in. A file that imports itself is one.
 use Rattle.std.specs.Prelude.{◌≡◌, ℕ, suc, ◌<◌, Bool, true, false, List, [], ◌∷◌, Option, None, Some, map, filter, length}
 use Rattle.sv_ast.specs.declared.files.SourceFile.{SourceFile}
@@ -6,7 +6,8 @@ use Rattle.sv_ast.specs.declared.script_tree.Stmt.{Stmt}
 use Rattle.sv_base.specs.declared.span.Span.{Span}
 use Rattle.sv_graph.specs.Links.{links_of}
 use Rattle.sv_graph.specs.Reached.{Leads}
-use Rattle.sv_imports.specs.Imports.{statements_of, target, imports}
+use Rattle.sv_ast.specs.Files.{statements_of}
+use Rattle.sv_imports.specs.Imports.{target, imports}
 
 -- a file is another, or leads to it by imports
 abbrev pub LeadsTo : List SourceFile → ℕ → ℕ → Type 0
@@ -34,7 +35,7 @@ abbrev pub cycles_from : (ℕ → ℕ → Bool) → List SourceFile → ℕ → 
 cycles_from leads files file [] = []
 cycles_from leads files file (source ∷ more) = cycles_in leads files file source ∷ cycles_from leads files (suc file) more
 
--- for each file the places of its imports that are part of a circle
+-- for each file the places of its imports that are part of a cycle
 pub record AreCycles (files : List SourceFile) (places : List (List Span)) : Type 0 where
   pub leads : ℕ → ℕ → Bool
   pub tells : TellsLeads files leads

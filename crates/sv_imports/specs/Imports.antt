@@ -1,9 +1,7 @@
 -- The files that a file imports (ECMA-262, 16.2.2). A file is named by its place in the order of reading.
-use Rattle.std.specs.Prelude.{ℕ, List, drop, Option, None, Some, map, position, codes, nat_eq, if◌then◌else◌}
-use Rattle.std.specs.List.{filter_map, starts_with}
+use Rattle.std.specs.Prelude.{ℕ, List, Option, None, Some, map, position}
+use Rattle.std.specs.List.{filter_map}
 use Rattle.std.specs.Str.{bytes_eq}
-use Rattle.sv_ast.specs.declared.files.FileTree.{FileTree}
-use Rattle.sv_ast.specs.declared.files.FileTree.TheVariants as tree
 use Rattle.sv_ast.specs.declared.files.SourceFile.{SourceFile}
 use Rattle.sv_ast.specs.declared.script_tree.Arm.{Arm}
 use Rattle.sv_ast.specs.declared.script_tree.Body.{Body}
@@ -15,19 +13,11 @@ use Rattle.sv_ast.specs.declared.script_tree.Field.{Field}
 use Rattle.sv_ast.specs.declared.script_tree.Link.{Link}
 use Rattle.sv_ast.specs.declared.script_tree.Stmt.{Stmt}
 use Rattle.sv_ast.specs.declared.script_tree.StmtKind.{StmtKind, StmtKind-F, out-StmtKind}
+use Rattle.sv_ast.specs.Files.{statements_of, name_in}
 
 -- the form of a statement, one layer of it
 abbrev pub StmtLayer : Type 0
 StmtLayer = StmtKind-F Body Entry ExprKind Field StmtKind Arm Decl Expr Link Stmt
-
--- the statements at the top of a file
-abbrev pub statements_of : FileTree → List Stmt
-statements_of (tree.Component c) = c.script.stmts
-statements_of (tree.Module m) = m.script.stmts
-
--- the name of the file that an import names: what stands behind `./`. What the language gives is no file
-abbrev pub name_in : List ℕ → Option (List ℕ)
-name_in from = if starts_with nat_eq from (codes "./") then Some (drop 2 from) else None
 
 abbrev pub file_of_name : List SourceFile → Option (List ℕ) → Option ℕ
 file_of_name files None = None

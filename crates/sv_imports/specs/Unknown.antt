@@ -18,7 +18,8 @@ use Rattle.sv_base.specs.declared.span.Span.{Span}
 use Rattle.sv_names.specs.Distinct.{has}
 use Rattle.sv_imports.specs.declared.origin.Origin.{Origin}
 use Rattle.sv_imports.specs.declared.origin.Origin.TheVariants.{Life, Stores, File, Nowhere}
-use Rattle.sv_imports.specs.Imports.{StmtLayer, statements_of, file_named}
+use Rattle.sv_ast.specs.Files.{statements_of}
+use Rattle.sv_imports.specs.Imports.{StmtLayer, file_named}
 use Rattle.sv_imports.specs.Given.{given_names}
 
 abbrev pub file_origin : Option ℕ → Origin
@@ -43,7 +44,7 @@ abbrev pub unknown_from : Table → List (List Ref) → Origin → List ImportNa
 unknown_from table given origin specs = map (λ spec. spec.given.span) (filter (λ spec. not (gives table given origin spec.given.name)) specs)
 
 abbrev pub unknown_layer : Table → List SourceFile → List (List Ref) → StmtLayer → List Span
-unknown_layer table files given (StmtKind-F.Import i) = unknown_from table given (origin_of files i.from) i.specs
+unknown_layer table files given (StmtKind-F.Import i) = unknown_from table given (origin_of files i.from) i.names
 unknown_layer table files given _ = []
 
 abbrev pub unknown_of : Table → List SourceFile → List (List Ref) → Stmt → List Span

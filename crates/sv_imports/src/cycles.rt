@@ -1,19 +1,19 @@
-// Circles of imports.
+// Cycles of imports.
 ghost use Rattle.std.specs.Prelude.{◌≡◌, ◌<◌, ◌^◌, IfOk, OnOk, length};
 ghost use Rattle.sv_graph.specs.Links.{IsWhole};
 ghost use Rattle.sv_imports.specs.Imports as imports;
 ghost use Rattle.sv_imports.specs.Cycles as spec;
 ghost use Rattle.sv_imports.specs.Table.{leads_in, IsTable};
 
-use crate::files::{statements_of, target};
+use crate::files::target;
 use std::alloc::Global;
 use sv_ast::{Bundle, SourceFile, Stmt};
 use sv_base::{NoMemory, Span};
-use sv_list::Items;
 use sv_graph::reached;
+use sv_list::Items;
 
-/// For each file of a bundle the places of its imports that are part of a circle: of a file from which imports lead to this one, itself
-/// included. The place is that of the whole statement. `NoMemory` comes at want of memory, or of a number below 2^32 for a file.
+/// For each file of a bundle the places of its imports that are part of a cycle: of a file from which imports lead to this one, itself
+/// included. The place is that of the whole statement. `NoMemory` comes where memory runs out, or of a number below 2^32 for a file.
 ///
 /// The rule is this project's own: ECMA-262 lets modules import one another, and Svelte components contain themselves.
 pub fn import_cycles(alloc: Global, bundle: &Bundle) -> Result<Items<Items<Span>>, NoMemory>
@@ -28,7 +28,7 @@ pub fn import_cycles(alloc: Global, bundle: &Bundle) -> Result<Items<Items<Span>
     find_cycles(alloc, files, &table)
 }
 
-/// For each file those that it imports, in the order of its statements. `NoMemory` comes at want of memory alone.
+/// For each file those that it imports, in the order of its statements. `NoMemory` comes only where memory runs out.
 pub fn import_links(alloc: Global, files: &[SourceFile]) -> Result<Vec<Items<u32>>, NoMemory>
     requires { length files.now < 2 ^ 32 }
     ensures { IfOk result (λ links. links.items ≡ imports.imports files.now) }
@@ -45,7 +45,7 @@ fn targets(alloc: Global, files: &[SourceFile], source: &SourceFile) -> Result<I
     ensures { IfOk result (λ targets. targets ≡ imports.targets files.now source.now) }
 {
     let mut targets = Items::new(alloc);
-    for stmt in statements_of(&source.tree) {
+    for stmt in source.tree.statements() {
         if let Some(file) = target(files, stmt) {
             targets.push(file as u32)?;
         }
@@ -103,7 +103,7 @@ fn find_cycles_in(
     ensures { IfOk result (λ places. places ≡ spec.cycles_in (leads_in table.now) files.now file source.now) }
 {
     let mut places = Items::new(alloc);
-    for stmt in statements_of(&source.tree) {
+    for stmt in source.tree.statements() {
         if closes(files, table, file, stmt) {
             places.push(stmt.span)?;
         }

@@ -1,19 +1,9 @@
-// The statements of files, and the files that they import.
-ghost use Rattle.std.specs.Prelude.{◌≡◌, ◌<◌, length, IfSome, MatchOption, Some, None, position};
+// The files that imports name.
+ghost use Rattle.std.specs.Prelude.{◌≡◌, ◌<◌, length, IfSome, position};
 ghost use Rattle.std.specs.Str.{bytes_eq};
 ghost use Rattle.sv_imports.specs.Imports as spec;
 
-use sv_ast::{FileTree, SourceFile, Stmt, StmtKind};
-
-/// The statements at the top of a file.
-pub fn statements_of(tree: &FileTree) -> &[Stmt]
-    ensures { result.now ≡ spec.statements_of tree.now }
-{
-    match tree {
-        FileTree::Component(of) => of.script.stmts.as_slice(),
-        FileTree::Module(of) => of.script.stmts.as_slice(),
-    }
-}
+use sv_ast::{SourceFile, Stmt, StmtKind, name_in};
 
 /// The file that an import names, by its place among the files: `./x.js` is the file `x.js`. `None` comes exactly where there is no
 /// such file, as for what the language gives.
@@ -25,13 +15,6 @@ pub fn file_named(files: &[SourceFile], from: &str) -> Option<usize>
         Some(name) => file_of_name(files, name),
         None => None,
     }
-}
-
-// The name of the file that an import names.
-fn name_in(from: &str) -> Option<&str>
-    ensures { MatchOption result (spec.name_in from.now ≡ None) (λ name. spec.name_in from.now ≡ Some name.now) }
-{
-    from.strip_prefix("./")
 }
 
 fn file_of_name(files: &[SourceFile], name: &str) -> Option<usize>

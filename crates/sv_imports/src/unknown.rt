@@ -2,12 +2,11 @@
 ghost use Rattle.std.specs.Prelude.{◌≡◌, ◌++◌, map, IfOk, OnOk};
 ghost use Rattle.sv_imports.specs.Unknown as spec;
 
-use crate::files::statements_of;
 use crate::given::given_names;
-use crate::origin::{Origin, origin_of};
 use crate::language::{is_life_function, is_store_function};
+use crate::origin::{Origin, origin_of};
 use std::alloc::Global;
-use sv_ast::{Bundle, Import, Ref, SourceFile, ImportName, Stmt, StmtKind};
+use sv_ast::{Bundle, Import, ImportName, Ref, SourceFile, Stmt, StmtKind};
 use sv_base::{Name, Names, NoMemory, Span};
 use sv_list::Items;
 use sv_names::Distinct;
@@ -15,7 +14,7 @@ use sv_names::Distinct;
 /// For each file of a bundle the places of the names that it imports between braces and that aren't given: in `given as local` that of
 /// `given`. A module gives what it declares by `export const` and `export function` (ECMA-262, 16.2.3). `svelte` gives `onMount`,
 /// `beforeUpdate`, `afterUpdate`, `onDestroy`, `setContext`, `getContext` and `createEventDispatcher`, and `svelte/store` gives `writable`.
-/// A component, and a file that isn't there, give nothing. `NoMemory` comes at want of memory alone.
+/// A component, and a file that isn't there, give nothing. `NoMemory` comes only where memory runs out.
 pub fn unknown_imports(alloc: Global, bundle: &Bundle) -> Result<Items<Items<Span>>, NoMemory>
     ensures { IfOk result (λ places. places ≡ spec.unknown_imports bundle.now) }
 {
@@ -49,7 +48,7 @@ fn find_in_file(
     ensures { IfOk result (λ places. places ≡ spec.unknown_in names.now files.now given.now source.now) }
 {
     let mut places = Items::new(alloc);
-    for stmt in statements_of(&source.tree) {
+    for stmt in source.tree.statements() {
         find_in_stmt(&mut places, names, files, given, stmt)?;
     }
     Ok(places)
@@ -77,10 +76,10 @@ fn find_in_import(
     given: &[Distinct],
     import: &Import,
 ) -> Result<(), NoMemory>
-    ensures { OnOk result (places.new ≡ places.old ++ spec.unknown_from names.now given.now (spec.origin_of files.now import.now.from) import.now.specs) }
+    ensures { OnOk result (places.new ≡ places.old ++ spec.unknown_from names.now given.now (spec.origin_of files.now import.now.from) import.now.names) }
 {
     let origin = origin_of(files, import.from.as_str());
-    find_in_specs(places, names, given, origin, import.specs.as_slice())
+    find_in_specs(places, names, given, origin, import.names.as_slice())
 }
 
 fn find_in_specs(

@@ -4,7 +4,7 @@ ghost use Rattle.std.specs.List.{filter_map};
 ghost use Rattle.sv_load.specs.Imports as spec;
 
 use std::alloc::Global;
-use sv_ast::{FileTree, Stmt, StmtKind, Stmts};
+use sv_ast::{FileTree, Stmt, StmtKind, name_in};
 use sv_base::{NoMemory, Text};
 use sv_list::Items;
 
@@ -18,29 +18,13 @@ pub fn is_module(name: &str) -> bool
     name.ends_with(".js")
 }
 
-// The file that an import names.
-fn file_named(from: &str) -> Option<&str>
-    ensures { MatchOption result (spec.file_named from.now ≡ None) (λ name. spec.file_named from.now ≡ Some name.now) }
-{
-    from.strip_prefix("./")
-}
-
 // The file that a statement names.
 fn file_of(stmt: &Stmt) -> Option<&str>
     ensures { MatchOption result (spec.file_of stmt.now ≡ None) (λ name. spec.file_of stmt.now ≡ Some name.now) }
 {
     match stmt.kind.get() {
-        StmtKind::Import(import) => file_named(import.from.as_str()),
+        StmtKind::Import(import) => name_in(import.from.as_str()),
         _ => None,
-    }
-}
-
-fn statements(tree: &FileTree) -> &Stmts
-    ensures { result.now ≡ spec.statements tree.now }
-{
-    match tree {
-        FileTree::Component(component) => &component.script.stmts,
-        FileTree::Module(module) => &module.script.stmts,
     }
 }
 
@@ -61,5 +45,5 @@ fn named(alloc: Global, stmts: &[Stmt]) -> Result<FileNames, NoMemory>
 pub fn imported(alloc: Global, tree: &FileTree) -> Result<FileNames, NoMemory>
     ensures { IfOk result (λ names. names ≡ spec.imports tree.now) }
 {
-    named(alloc, statements(tree).as_slice())
+    named(alloc, tree.statements())
 }

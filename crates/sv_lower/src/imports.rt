@@ -12,6 +12,6 @@ pub(crate) fn copy_import(alloc: Global, import: &Import) -> Result<Import, NoMe
     Ok(Import {
         from: import.from.share()?,
         whole: import.whole,
-        specs: ImportNames::copy_of(alloc, import.specs.as_slice())?,
+        names: ImportNames::copy_of(alloc, import.names.as_slice())?,
     })
 }

@@ -18,7 +18,7 @@ pub struct Inside<'a> {
 }
 
 /// What a name stands for.
-pub fn known_at(inside: &Inside<'_>, name: Ref) -> Known
+pub(crate) fn known_at(inside: &Inside<'_>, name: Ref) -> Known
     ensures { result ≡ spec_known_at inside.now.tops.now (names_of inside.now.locals.now) name }
 {
     if is_local(inside.locals, name) {

@@ -8,12 +8,12 @@ mod heads;
 mod imports;
 mod inside;
 mod lists;
+mod members;
 mod statements;
 mod tops;
-mod members;
 
 pub use expressions::lower_expr;
-pub use inside::{Inside, known_at};
+pub use inside::Inside;
+pub use members::Word;
 pub use statements::lower_stmts;
 pub use tops::TopNames;
-pub use members::Word;

@@ -2,3 +2,4 @@ pub mod Names
 pub mod Loops
 pub mod Same
 pub mod Append
+pub mod Entries

@@ -1,3 +1,4 @@
 pub mod Distinct
 pub mod Uses
 pub mod Locals
+pub mod NameMap

@@ -130,7 +130,7 @@ abbrev pub decl : Decl-F Parts Found Found Found Parts Found Parts Found Found P
 decl d = record { declares = named d.name ∷ []; uses = given d.first }
 
 abbrev pub imported : Import → List Ref
-imported i = option_to_list (option_map named i.whole) ++ map (λ spec. named spec.local) i.specs
+imported i = option_to_list (option_map named i.whole) ++ map (λ spec. named spec.local) i.names
 
 -- the head of a `for` and its body, in the order of the text
 abbrev pub turns : Found → Found → Found → Found → Found

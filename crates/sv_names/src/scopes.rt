@@ -5,7 +5,7 @@ ghost use Rattle.sv_names.specs.Uses.{named, imported, optional, together, scope
 
 use crate::once::Distinct;
 use std::alloc::Global;
-use sv_ast::{Body, Decl, Import, Named, Ref, ImportName, Stmt, StmtKind};
+use sv_ast::{Body, Decl, Import, ImportName, Named, Ref, Stmt, StmtKind};
 use sv_base::NoMemory;
 
 /// Declares a name.
@@ -49,7 +49,7 @@ fn declare_import(scope: &mut Distinct, import: &Import) -> Result<(), NoMemory>
     if let Some(whole) = &import.whole {
         declare(scope, whole)?;
     }
-    declare_specs(scope, import.specs.as_slice())
+    declare_specs(scope, import.names.as_slice())
 }
 
 /// Declares what a statement declares in the scope round it.
@@ -112,7 +112,7 @@ pub(crate) fn declare_optional(scope: &mut Distinct, stmt: &Option<Stmt>) -> Res
     }
 }
 
-/// The names of an arrow with some parameters, each once: those, and what its body declares. `NoMemory` comes at want of memory alone.
+/// The names of an arrow with some parameters, each once: those, and what its body declares. `NoMemory` comes only where memory runs out.
 #[tactic(auto, using(crate::proofs::Names::with_names_append))]
 pub fn arrow_scope(alloc: Global, params: &[Named], body: &Body) -> Result<Distinct, NoMemory>
     ensures { IfOk result (λ names. names ≡ scope_of params.now (body_parts body.now)) }
@@ -124,7 +124,7 @@ pub fn arrow_scope(alloc: Global, params: &[Named], body: &Body) -> Result<Disti
 }
 
 /// The names of a function with some parameters, or of a block, which has none, each once: those, and what its statements declare. `NoMemory`
-/// comes at want of memory alone.
+/// comes only where memory runs out.
 #[tactic(auto, using(crate::proofs::Names::with_names_append))]
 pub fn block_scope(alloc: Global, params: &[Named], stmts: &[Stmt]) -> Result<Distinct, NoMemory>
     ensures { IfOk result (λ names. names ≡ scope_of params.now (together (map stmt_parts stmts.now))) }
@@ -135,7 +135,7 @@ pub fn block_scope(alloc: Global, params: &[Named], stmts: &[Stmt]) -> Result<Di
     Ok(names)
 }
 
-/// The names that the head of a `for` declares, each once. `NoMemory` comes at want of memory alone.
+/// The names that the head of a `for` declares, each once. `NoMemory` comes only where memory runs out.
 pub fn head_scope(alloc: Global, first: &Option<Stmt>) -> Result<Distinct, NoMemory>
     ensures { IfOk result (λ names. names ≡ head_of first.now) }
 {

@@ -11,8 +11,8 @@ use indexmap::IndexSet;
 use std::alloc::Global;
 use sv_ast::Ref;
 use sv_base::NoMemory;
-use sv_list::Items;
 use sv_graph::unlinked;
+use sv_list::Items;
 
 /// The links of statements and names. A statement is linked to each name that it reads and doesn't assign, and a name to the
 /// statements that assign it.

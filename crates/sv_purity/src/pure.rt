@@ -8,8 +8,8 @@ ghost use Rattle.sv_purity.specs.First.{first, outcome};
 ghost use Rattle.sv_purity.specs.Pure as spec;
 ghost use Rattle.sv_purity.specs.Scopes.{visible};
 
-use crate::scope::{Scope, is_callable, is_pure_name};
 use crate::calls::{is_list_call, is_math, is_math_call, is_value_call};
+use crate::scope::{Scope, is_callable, is_pure_name};
 use std::slice;
 use sv_ast::{
     Arm, Body, Decl, Entry, Expr, ExprKind, Field, Link, Named, Ref, RefList, Stmt, StmtKind,

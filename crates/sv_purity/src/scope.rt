@@ -8,7 +8,7 @@ ghost use Rattle.sv_purity.specs.Pure as spec;
 ghost use Rattle.sv_purity.specs.Pure.{together, decl_part, stmt_part, hiding};
 ghost use Rattle.sv_purity.specs.Scopes.{declared_by, visible};
 
-use sv_ast::{Decl, Import, Named, Ref, ImportName, Stmt, StmtKind};
+use sv_ast::{Decl, Import, ImportName, Named, Ref, Stmt, StmtKind};
 use sv_names::Distinct;
 
 /// The names by which something is known that changes nothing, and reads nothing but what it is given.
@@ -205,7 +205,7 @@ fn imports<S: Sought>(import: &Import, sought: &S) -> bool
         Some(own) => is(own, sought),
         None => false,
     };
-    is_whole || is_given(import.specs.as_slice(), sought)
+    is_whole || is_given(import.names.as_slice(), sought)
 }
 
 fn is_given<S: Sought>(specs: &[ImportName], sought: &S) -> bool

@@ -110,7 +110,7 @@ abbrev pub decls : Binding → List ByBinding → Parts
 decls how list = in_turn (map (λ d. d how) list)
 
 abbrev pub imported : Import → List Declared
-imported i = option_to_list (option_map (declared by.Component) i.whole) ++ map (λ spec. declared by.Import spec.local) i.specs
+imported i = option_to_list (option_map (declared by.Component) i.whole) ++ map (λ spec. declared by.Import spec.local) i.names
 
 abbrev pub for_binding : Bool → Binding
 for_binding fixed = if fixed then by.Const else by.Let

@@ -5,13 +5,13 @@ ghost use Rattle.sv_scopes.specs.Parts.{Finds, in_turn, declaring};
 ghost use Rattle.sv_scopes.specs.Attributes as spec;
 
 use crate::found::Found;
-use crate::script::{find, use_of};
 use crate::scope::{Binding, Declared, Form, Role};
+use crate::script::{find, use_of};
 use sv_ast::{AttrKind, AttrPart, AttrValue, ExprKind, Ref, TagAttr};
 use sv_base::{Name, NoMemory, Span};
 
-/// A span without some bytes at its front.
-pub(crate) fn past(count: u32, span: Span) -> Span
+/// A span without its first `count` bytes. Places end below 2^32.
+pub fn past(count: u32, span: Span) -> Span
     ensures { result ≡ spec.past count span }
 {
     Span {

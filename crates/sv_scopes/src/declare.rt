@@ -6,7 +6,7 @@ ghost use Rattle.sv_scopes.specs.Script.{declared, locals, imported};
 
 use crate::found::Found;
 use crate::scope::{Binding, Declared};
-use sv_ast::{Import, Named, ImportName};
+use sv_ast::{Import, ImportName, Named};
 use sv_base::NoMemory;
 
 /// Notes that a name is declared.
@@ -47,7 +47,7 @@ pub(crate) fn declare_import(found: &mut Found, import: &Import) -> Result<(), N
     if let Some(whole) = &import.whole {
         declare(found, whole, Binding::Component)?;
     }
-    declare_specs(found, import.specs.as_slice())
+    declare_specs(found, import.names.as_slice())
 }
 
 fn declare_specs(found: &mut Found, specs: &[ImportName]) -> Result<(), NoMemory>

@@ -6,14 +6,14 @@ ghost use Rattle.sv_scopes.specs.Parts.{Finds, declaring, names_of};
 
 use crate::found::Found;
 use crate::markup::find_nodes;
-use crate::script::find_stmt;
 use crate::scope::{Binding, Declared, FileScopes};
+use crate::script::find_stmt;
 use std::alloc::Global;
 use sv_ast::{AssignOp, Component, ExprKind, Markup, Ref, Script, Stmt, StmtKind};
 use sv_base::{NoMemory, Span};
 
 /// The scopes of a component, each with what it declares and with the uses in it that no scope inside it declares, in the
-/// order of the file. `NoMemory` comes at want of memory alone.
+/// order of the file. `NoMemory` comes only where memory runs out.
 ///
 /// A scope is the top level, a function or an arrow with its parameters and body, another block of statements, a `for` with
 /// its head, a row of an each block with its key, and slot content with its `let:` names (ECMA-262, 9.1 and 14.2; Svelte 4

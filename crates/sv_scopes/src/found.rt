@@ -4,8 +4,8 @@ ghost use Rattle.sv_names.specs.Distinct.{firsts};
 ghost use Rattle.sv_scopes.specs.Files.{file};
 ghost use Rattle.sv_scopes.specs.Parts.{Finds, nothing, using_name, declaring, names_of, is_tag, is_of, handed, closed};
 
-use crate::top::settle;
 use crate::scope::{Declared, FileScopes, Role, Scope, Use};
+use crate::top::settle;
 use std::alloc::Global;
 use std::marker::Model;
 use std::mem;

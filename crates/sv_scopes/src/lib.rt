@@ -7,11 +7,11 @@ mod file;
 mod found;
 mod local_names;
 mod markup;
+mod scope;
 mod script;
 mod top;
-mod scope;
 
-pub use attributes::is_slotted;
+pub use attributes::{is_slotted, past};
 pub use file::{scopes_of_component, scopes_of_module};
 pub use local_names::{let_names, row_names};
 pub use scope::{Binding, Declared, FileScopes, Form, Role, Scope, Use, VIEW};

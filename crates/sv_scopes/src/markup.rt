@@ -8,8 +8,8 @@ ghost use Rattle.sv_scopes.specs.Markup as spec;
 use crate::attributes::{declare_lets, find_attributes, is_slotted, note_read, past};
 use crate::declare::{declare, declare_index};
 use crate::found::{Content, Found};
-use crate::script::{find, find_given, use_of};
 use crate::scope::{Binding, Form, Role, VIEW};
+use crate::script::{find, find_given, use_of};
 use sv_ast::{Branch, Expr, Markup, Named, Ref, TagAttr};
 use sv_base::{Name, NoMemory, Span};
 

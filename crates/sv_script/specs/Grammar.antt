@@ -16,7 +16,7 @@ use Rattle.sv_expr.specs.Grammar.{Inside, Params}
 use Rattle.sv_expr.specs.Limits.{Limits}
 use Rattle.sv_script.specs.declared.place.Place.{Place}
 use Rattle.sv_script.specs.Files.{is_source}
-use Rattle.sv_script.specs.Nodes.{form, decl, arm, spec}
+use Rattle.sv_script.specs.Nodes.{form, decl, arm, known_by}
 use Rattle.sv_script.specs.Places.{top, in_function, looped}
 
 -- `;`, also on a later line; or nothing before `}`, the end of the text or a later line
@@ -192,8 +192,8 @@ module _ (limits : Limits) (block : ℕ → Parser (List Stmt)) where
 
 -- Name [ 'as' Name ]
 pub data Known : Input → ImportName → Input → Type 0 where
-  known_same : {i o : Input} {found : Named} → IsName i found o → spelling o ≢ codes "as" → Known i (spec found found) o
-  known_as : {i j o : Input} {given local : Named} → IsName i given j → spelling j ≡ codes "as" → IsName (next j) local o → Known i (spec given local) o
+  known_same : {i o : Input} {found : Named} → IsName i found o → spelling o ≢ codes "as" → Known i (known_by found found) o
+  known_as : {i j o : Input} {given local : Named} → IsName i given j → spelling j ≡ codes "as" → IsName (next j) local o → Known i (known_by given local) o
 
 -- [ ImportName { ',' ImportName } [ ',' ] ] '}'
 pub data ImportNames : Input → List ImportName → Input → Type 0 where
@@ -209,9 +209,9 @@ pub data Origin (is_whole : Bool) : Input → List ℕ → Input → Type 0 wher
 -- 'import' ( Name | '{' ImportNames ) Origin
 pub data Imports : Input → Stmt → Input → Type 0 where
   import_whole : {i j o : Input} {found : Named} {text : List ℕ} → sees i ≡ k.Import → IsName (next i) found j → Origin true j text o
-      → Imports i (form i o (s.Import (record { from = text; whole = Some found; specs = [] }))) o
+      → Imports i (form i o (s.Import (record { from = text; whole = Some found; names = [] }))) o
   import_names : {i j o : Input} {found : List ImportName} {text : List ℕ} → sees i ≡ k.Import → sees (next i) ≡ k.LBrace → ImportNames (next (next i)) found j → Origin false j text o
-      → Imports i (form i o (s.Import (record { from = text; whole = None; specs = found }))) o
+      → Imports i (form i o (s.Import (record { from = text; whole = None; names = found }))) o
 
 -- ---- files
 

@@ -23,5 +23,5 @@ decl name first = roll-Decl (record { name = name; first = first })
 abbrev pub arm : Expr → Stmt → Arm
 arm test body = record { test = test; body = body }
 
-abbrev pub spec : Named → Named → ImportName
-spec given local = record { given = given; local = local }
+abbrev pub known_by : Named → Named → ImportName
+known_by given local = record { given = given; local = local }

@@ -17,7 +17,7 @@ use Rattle.sv_expr.specs.Lists.{listed}
 use Rattle.sv_expr.specs.Rules.{level}
 use Rattle.sv_script.specs.Files.{is_source}
 use Rattle.sv_script.specs.Lists.{upto}
-use Rattle.sv_script.specs.Nodes.{stmt, spec}
+use Rattle.sv_script.specs.Nodes.{stmt, known_by}
 use Rattle.sv_script.specs.Places.{top, in_function}
 use Rattle.sv_script.specs.Rules.{Bodies, word_as, statement, item, braced, variables, const_statement, func}
 
@@ -26,7 +26,7 @@ use Rattle.sv_script.specs.Rules.{Bodies, word_as, statement, item, braced, vari
 -- the name by which the file knows what is given, behind that name
 unfoldable pub known_as : Named → Parser ImportName
 known_as given = λ i. if bytes_eq (spelling i) (codes "as")
-    then (take_token >> (name >>= (λ local. pure (spec given local)))) i else Ok (spec given given, i)
+    then (take_token >> (name >>= (λ local. pure (known_by given local)))) i else Ok (known_by given given, i)
 
 unfoldable pub import_name : Parser ImportName
 import_name = name >>= known_as
@@ -48,14 +48,14 @@ unfoldable pub import_whole : ℕ → Parser Stmt
 import_whole from = do
   found ← name
   text ← origin true
-  λ i. Ok (stmt (span_from from i) (s.Import (record { from = text; whole = Some found; specs = [] })), i)
+  λ i. Ok (stmt (span_from from i) (s.Import (record { from = text; whole = Some found; names = [] })), i)
 
 unfoldable pub import_names : ℕ → Parser Stmt
 import_names from = do
   take_token
   found ← listed import_name k.RBrace
   text ← origin false
-  λ i. Ok (stmt (span_from from i) (s.Import (record { from = text; whole = None; specs = found })), i)
+  λ i. Ok (stmt (span_from from i) (s.Import (record { from = text; whole = None; names = found })), i)
 
 unfoldable pub import_statement : Parser Stmt
 import_statement = do

@@ -2,10 +2,10 @@
 ghost use Rattle.sv_lex.specs.Reader.{Reads};
 ghost use Rattle.sv_script.specs.Script as spec;
 
-use crate::files::is_source;
 use crate::contextual::{is_written, word_as};
+use crate::files::is_source;
 use std::alloc::Global;
-use sv_ast::{Import, Kind, Named, ParseError, ImportName, ImportNames, Stmt, StmtKind};
+use sv_ast::{Import, ImportName, ImportNames, Kind, Named, ParseError, Stmt, StmtKind};
 use sv_base::Text;
 use sv_expr::listed;
 use sv_lex::{Lexeme, Tokens};
@@ -70,7 +70,7 @@ fn import_whole(alloc: Global, tokens: &mut Tokens<'_>, from: u32) -> Result<Stm
     let kind = StmtKind::Import(Import {
         from: text,
         whole,
-        specs: ImportNames::new(alloc),
+        names: ImportNames::new(alloc),
     });
     Ok(Stmt::new(alloc, tokens.span_from(from), kind)?)
 }
@@ -80,12 +80,12 @@ fn import_names(alloc: Global, tokens: &mut Tokens<'_>, from: u32) -> Result<Stm
     ensures { Reads (spec.import_names from tokens.old) result tokens.new }
 {
     tokens.take();
-    let specs = listed(alloc, tokens, Lexeme::RBrace, import_name)?;
+    let names = listed(alloc, tokens, Lexeme::RBrace, import_name)?;
     let text = origin(tokens, false)?;
     let kind = StmtKind::Import(Import {
         from: text,
         whole: None,
-        specs,
+        names,
     });
     Ok(Stmt::new(alloc, tokens.span_from(from), kind)?)
 }

@@ -3,6 +3,7 @@
 
 mod branches;
 mod calls;
+mod contextual;
 mod declarations;
 mod files;
 mod imports;
@@ -14,7 +15,6 @@ mod loops;
 mod place;
 mod statements;
 mod top;
-mod contextual;
 
 pub use calls::{parse_expr, parse_expr_in, parse_module_script, parse_script};
 pub use knot::{component, expression};

@@ -6,10 +6,10 @@ ghost use Rattle.sv_script.specs.Places.{looped};
 ghost use Rattle.sv_script.specs.Rules as spec;
 ghost use Rattle.sv_script.specs.Script.{bodies};
 
+use crate::contextual::word_as;
 use crate::leaves::begins_each;
 use crate::place::Place;
 use crate::statements::Statements;
-use crate::contextual::word_as;
 use std::alloc::Global;
 use sv_ast::{Expr, ParseError, Stmt, StmtKind, Stmts};
 use sv_expr::Form;

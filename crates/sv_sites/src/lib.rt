@@ -6,8 +6,8 @@ mod content;
 mod hidden;
 mod site;
 mod tags;
-mod walk;
 mod texts;
+mod walk;
 
 pub use content::is_given;
 pub use site::{Site, Sites};

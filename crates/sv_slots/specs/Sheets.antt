@@ -16,12 +16,14 @@ use Rattle.sv_base.specs.declared.span.Span.{Span}
 use Rattle.sv_base.specs.Names.{with_text}
 use Rattle.sv_names.specs.Distinct.{firsts}
 use Rattle.sv_imports.specs.Given.{decl_names}
-use Rattle.sv_imports.specs.Imports.{StmtLayer, statements_of}
+use Rattle.sv_ast.specs.Files.{statements_of}
+use Rattle.sv_imports.specs.Imports.{StmtLayer}
 use Rattle.sv_sites.specs.declared.site.Site.{Site}
 use Rattle.sv_sites.specs.declared.site.Site.TheVariants as site
 use Rattle.sv_sites.specs.Sites.{component_sites}
 use Rattle.sv_slots.specs.declared.sheets.Sheet.{Sheet}
-use Rattle.sv_slots.specs.Children.{file_of, tag_files}
+use Rattle.sv_names.specs.NameMap.{number_of}
+use Rattle.sv_slots.specs.Children.{tag_files}
 
 -- ---- props: what a component declares by `export let` (Svelte 4 docs, 'export creates a component prop')
 
@@ -85,7 +87,7 @@ slots_at all (Some file) = option_map_or (λ s. s.slots) (slice_get all file) []
 
 -- the props and slots of the component that a name stands for in a file
 abbrev pub child_props : List Sheet → Sheet → Name → List Ref
-child_props all own of = props_at all (file_of own.children (Plain of))
+child_props all own of = props_at all (number_of own.children (Plain of))
 
 abbrev pub child_slots : List Sheet → Sheet → Name → List (List ℕ)
-child_slots all own of = slots_at all (file_of own.children (Plain of))
+child_slots all own of = slots_at all (number_of own.children (Plain of))

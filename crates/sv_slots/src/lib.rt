@@ -5,6 +5,6 @@ mod children;
 mod mistakes;
 mod sheets;
 
-pub use children::{Children, children_of};
+pub use children::children_of;
 pub use mistakes::{bad_binds, unknown_props, unknown_slots};
 pub use sheets::{Sheet, sheets_of};

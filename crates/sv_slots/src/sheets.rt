@@ -4,13 +4,12 @@ ghost use Rattle.sv_names.specs.Distinct.{with_names};
 ghost use Rattle.sv_imports.specs.Given.{decl_names};
 ghost use Rattle.sv_slots.specs.Sheets as spec;
 
-use crate::children::{Children, children_of};
+use crate::children::children_of;
 use std::alloc::Global;
 use sv_ast::{Bundle, Decl, FileTree, Ref, SourceFile, Stmt, StmtKind};
 use sv_base::{Names, NoMemory};
-use sv_imports::statements_of;
 use sv_list::Items;
-use sv_names::Distinct;
+use sv_names::{Distinct, NameMap};
 use sv_sites::{Site, Sites, sites_of};
 
 /// What is known of a file for the markup of others.
@@ -21,13 +20,13 @@ pub struct Sheet {
     /// The names of its `<slot>`s.
     pub slots: Names,
     /// The files that the names of its tags stand for.
-    pub children: Children,
+    pub children: NameMap,
     /// The sites of its markup.
     pub sites: Sites,
 }
 
 /// What is known of the files of a bundle, each at its place. A name that an import without braces gives stands for the file that the
-/// import names, if it is there. `NoMemory` comes at want of memory alone.
+/// import names, if it is there. `NoMemory` comes only where memory runs out.
 pub fn sheets_of(alloc: Global, bundle: &Bundle) -> Result<Items<Sheet>, NoMemory>
     ensures { IfOk result (λ sheets. sheets ≡ spec.sheets bundle.now) }
 {
@@ -48,7 +47,7 @@ fn sheet_of(
     ensures { IfOk result (λ sheet. sheet ≡ spec.sheet names.now files.now source.now) }
 {
     let props = props_of(alloc, &source.tree)?;
-    let children = children_of(alloc, files, statements_of(&source.tree))?;
+    let children = children_of(alloc, files, source.tree.statements())?;
     let sites = file_sites(alloc, names, &source.tree)?;
     let slots = slots_of(alloc, sites.as_slice())?;
     Ok(Sheet {

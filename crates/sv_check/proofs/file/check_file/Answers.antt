@@ -13,6 +13,6 @@ returns-clause-checked c =
     record {
       scopes_are = c.in_ok-told_scopes-in-None.ensures;
       few = few_told c.args.bundle.now.names c.args.source.now.tree _ c.in_ok-told_scopes-in-None.ensures (none_wait TooManyNames _ _ (none_before _ _ none));
-      order_is = subst (λ stmts. IsOrder (reads stmts) c.in_ok-run.run'.order.items) c.statements_of.ensures (c.in_ok-run.ensures.order waits);
-      once = subst (λ stmts. IsEachOnce (reads stmts) c.in_ok-run.run'.order.items) c.statements_of.ensures (c.in_ok-run.ensures.once waits);
+      order_is = subst (λ stmts. IsOrder (reads stmts) c.in_ok-run.run'.order.items) c.statements.ensures (c.in_ok-run.ensures.order waits);
+      once = subst (λ stmts. IsEachOnce (reads stmts) c.in_ok-run.run'.order.items) c.statements.ensures (c.in_ok-run.ensures.once waits);
     }

@@ -1,4 +1,4 @@
-use Rattle.sv_imports.specs.Imports.{statements_of}
+use Rattle.sv_ast.specs.Files.{statements_of}
 use Rattle.sv_compile.proofs.Order.{numbers_below}
 use Rattle.sv_compile.proofs.program.compile_file.Goals as goal
 

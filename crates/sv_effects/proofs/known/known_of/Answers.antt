@@ -4,11 +4,11 @@ use Rattle.sv_effects.proofs.Bounding.{functions_in, all_below}
 use Rattle.sv_effects.proofs.Owning.{known_none, known_all}
 use Rattle.sv_effects.proofs.known.known_of.Goals as goal
 
-pub own-requires-clause-within : goal.own-requires-clause-within
-own-requires-clause-within c = functions_in c.args.bundle.now c.args.functions.now (length c.as_slice-files.result.now) c.requires.functions (ap length c.as_slice-files.ensures)
+pub own-requires : goal.own-requires
+own-requires c = record { within = functions_in c.args.bundle.now c.args.functions.now (length c.as_slice-files.result.now) c.requires.functions (ap length c.as_slice-files.ensures) }
 
-pub own-requires-2-clause-within : goal.own-requires-2-clause-within
-own-requires-2-clause-within c = functions_in c.args.bundle.now c.args.functions.now (length c.as_slice-files.result.now) c.requires.functions (ap length c.as_slice-files.ensures)
+pub own-requires-2 : goal.own-requires-2
+own-requires-2 c = record { within = functions_in c.args.bundle.now c.args.functions.now (length c.as_slice-files.result.now) c.requires.functions (ap length c.as_slice-files.ensures) }
 
 pub loop-file-init : goal.loop-file-init
 loop-file-init c = known_none c.args.bundle.now c.args.functions.now (length c.as_slice-files.result.now) c.in_ok-known.known.items c.requires.functions (ap length c.as_slice-files.ensures) c.in_ok-known.ensures

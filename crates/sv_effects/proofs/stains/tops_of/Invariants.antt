@@ -1,6 +1,6 @@
 use Rattle.std.proofs.Common.{take}
 use Rattle.std.specs.List.{AllZip}
-use Rattle.sv_effects.specs.Functions.{statements_of}
+use Rattle.sv_ast.specs.Files.{statements_of}
 use Rattle.sv_effects.specs.Top.{IsTop}
 use Rattle.sv_effects.proofs.stains.tops_of.Given as goal
 

@@ -5,9 +5,9 @@ use Rattle.sv_script.specs.Script.{import_names}
 use Rattle.sv_script.specs.Script.{bodies}
 use Rattle.sv_script.proofs.imports.import_names.Goals as goal
 
-pub returns-in_err-specs : goal.returns-in_err-specs
+pub returns-in_err-names : goal.returns-in_err-names
 unfolding import_names
-returns-in_err-specs c =
+returns-in_err-names c =
     let read = c.listed.ensures (spec.import_name) (λ old new r h. search rules) in
     first_of (search rules, grind (arith, common_steps))
 
