@@ -22,7 +22,7 @@ within element found = option_map (λ path. path ++ element ∷ []) found
 -- the element itself comes before those inside it
 abbrev pub in_form : (id : List ℕ) → Node-F (Option Path) → Option Path
 in_form id (Node-F.Element element children) = if list_any (is_id id) element.attributes then Some (element ∷ []) else within element (first_of children)
-in_form id (Node-F.Text mark number text) = None
+in_form id (Node-F.Text mark text) = None
 
 -- the path to the first element in a node
 abbrev pub in_node : (id : List ℕ) → Node → Option Path

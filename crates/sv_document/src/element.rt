@@ -14,14 +14,13 @@ pub type Attributes = sv_list::Items<Attribute>;
 /// The directives of an element that events are told, in the order of the text.
 pub type Listeners = sv_list::Items<Listener>;
 
-/// An element without its children: the instance in whose shape it stands, its mark there and its printed number, its name, the
-/// attributes that the page gives it, what a user left in it, and who is told of events. Content of a slot stands in the shape of
-/// the component that has the slot. A clause sees the instance as its number.
+/// An element without its children: the instance in whose shape it stands, its mark there, its name, the attributes that the page
+/// gives it, what a user left in it, and who is told of events. Content of a slot stands in the shape of the component that has the
+/// slot. A clause sees the instance as its number.
 #[derive(Drop)]
 pub struct Element {
     pub inst: Inst,
     pub mark: u64,
-    pub number: Option<u64>,
     pub name: Text,
     pub attributes: Attributes,
     pub typed: Option<Typed>,
@@ -39,7 +38,7 @@ impl Model for Element {
 
     ghost coded = { Prim.hlevel (codes, listener.the_row.coded, attribute.the_row.coded, left.the_row.coded) };
 
-    ghost view = { λ e. record { inst = e.inst.number; mark = e.mark; number = e.number; name = e.name; attributes = e.attributes; typed = e.typed; listeners = e.listeners } };
+    ghost view = { λ e. record { inst = e.inst.number; mark = e.mark; name = e.name; attributes = e.attributes; typed = e.typed; listeners = e.listeners } };
 }
 
 impl Element {

@@ -1,8 +1,15 @@
-// What holds of elements, on a function that gives nothing.
-ghost use Rattle.sv_document.specs.Laws.{IsValuePrinted, IsCheckPrinted};
+// What holds of elements and of printed numbers, on functions that give nothing.
+ghost use Rattle.sv_document.specs.Laws.{IsValuePrinted, IsCheckPrinted, StaysFair, IsNumberKept, IsNumberNew};
 
 /// What an element shows is what is printed of it, with what was typed laid over.
 pub fn shown_as_printed()
     ensures value { IsValuePrinted }
     ensures check { IsCheckPrinted }
+{}
+
+/// A node that stays keeps its printed number, one without a number gets one that none had, and no two have the same.
+pub fn one_number()
+    ensures fair { StaysFair }
+    ensures kept { IsNumberKept }
+    ensures new { IsNumberNew }
 {}

@@ -1,19 +1,21 @@
 // The text of a page.
-ghost use Rattle.std.specs.Prelude.{◌≡◌, ◌++◌, IfOk, OnOk};
+ghost use Rattle.std.specs.Prelude.{◌≡◌, ◌++◌, option_copied, IfOk, OnOk};
 ghost use Rattle.sv_html.specs.Tag.{element_of};
+ghost use Rattle.sv_document.specs.Printed as spec;
 ghost use Rattle.sv_document.specs.Printed.{html, node_html};
 ghost use Rattle.sv_document.specs.Shown.{shape_of};
 
 use crate::element::Element;
+use crate::numbers::Numbers;
 use crate::tree::Node;
 use std::alloc::Global;
 use sv_base::NoMemory;
 use sv_html::{Tag, push_end, push_start, push_text};
 
-/// The text of these nodes. With `numbers`, each element shows its printed number as the attribute `sv`, and each text in a
-/// comment before it.
-pub fn print(alloc: Global, nodes: &[Node], numbers: bool) -> Result<Vec<u8>, NoMemory>
-    ensures { IfOk result (λ text. text.items ≡ html numbers nodes.now) }
+/// The text of these nodes. With `numbers`, each element that has a printed number shows it as the attribute `sv`, and each text in
+/// a comment before it.
+pub fn print(alloc: Global, nodes: &[Node], numbers: Option<&Numbers>) -> Result<Vec<u8>, NoMemory>
+    ensures { IfOk result (λ text. text.items ≡ html (option_copied numbers.entry) nodes.now) }
 {
     let mut out = Vec::new(alloc);
     push_nodes(alloc, &mut out, numbers, nodes)?;
@@ -24,10 +26,10 @@ pub fn print(alloc: Global, nodes: &[Node], numbers: bool) -> Result<Vec<u8>, No
 fn push_nodes(
     alloc: Global,
     out: &mut Vec<u8>,
-    numbers: bool,
+    numbers: Option<&Numbers>,
     nodes: &[Node],
 ) -> Result<(), NoMemory>
-    ensures { OnOk result (out.new.items ≡ out.old.items ++ html numbers nodes.now) }
+    ensures { OnOk result (out.new.items ≡ out.old.items ++ html (option_copied numbers.entry) nodes.now) }
 {
     for node in nodes {
         push_node(alloc, out, numbers, node)?;
@@ -36,26 +38,41 @@ fn push_nodes(
 }
 
 #[cycle(walk)]
-fn push_node(alloc: Global, out: &mut Vec<u8>, numbers: bool, node: &Node) -> Result<(), NoMemory>
-    ensures { OnOk result (out.new.items ≡ out.old.items ++ node_html numbers node.now) }
+fn push_node(
+    alloc: Global,
+    out: &mut Vec<u8>,
+    numbers: Option<&Numbers>,
+    node: &Node,
+) -> Result<(), NoMemory>
+    ensures { OnOk result (out.new.items ≡ out.old.items ++ node_html (option_copied numbers.entry) node.now) }
 {
     match node {
         Node::Element { element, children } => {
-            push_start(alloc, out, numbers, tag_of(element))?;
+            let number = number_in(numbers, element.mark);
+            push_start(alloc, out, tag_of(element, number))?;
             push_nodes(alloc, out, numbers, children.as_slice())?;
             push_end(out, element.name.as_str())
         }
-        Node::Text { number, text, .. } => push_text(alloc, out, numbers, *number, text.as_str()),
+        Node::Text { mark, text } => {
+            push_text(alloc, out, number_in(numbers, *mark), text.as_str())
+        }
     }
 }
 
-// What an element shows of its own.
-fn tag_of(element: &Element) -> Tag<'_>
-    ensures number { result.number ≡ element.now.number }
+// The number that is printed of a node by its mark.
+fn number_in(numbers: Option<&Numbers>, mark: u64) -> Option<u64>
+    ensures { result ≡ spec.number_in (option_copied numbers.entry) mark }
+{
+    numbers?.get(mark)
+}
+
+// What an element shows of its own, with a printed number or none.
+fn tag_of(element: &Element, number: Option<u64>) -> Tag<'_>
+    ensures number { result.number ≡ number }
     ensures element { element_of result ≡ shape_of element.now }
 {
     Tag {
-        number: element.number,
+        number,
         name: element.name.as_str(),
         attributes: element.attributes.as_slice(),
         typed: &element.typed,

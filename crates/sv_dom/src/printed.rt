@@ -55,7 +55,7 @@ fn push_before(
 ) -> Result<(), NoMemory>
     ensures { OnOk result (out.new.items ≡ out.old.items ++ before_html numbers entry.now.serial entry.now.number (kind_of entry.now.content)) }
 {
-    let number = entry.number;
+    let number = if numbers { entry.number } else { None };
     match &entry.content {
         Content::Element(element) => {
             if entry.serial == 0 {
@@ -67,9 +67,9 @@ fn push_before(
                 attributes: &element.attributes,
                 typed: &element.typed,
             };
-            push_start(alloc, out, numbers, tag)
+            push_start(alloc, out, tag)
         }
-        Content::Text(text) => push_text(alloc, out, numbers, number, text.as_str()),
+        Content::Text(text) => push_text(alloc, out, number, text.as_str()),
         Content::Anchor => Ok(()),
     }
 }

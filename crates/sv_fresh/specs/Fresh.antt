@@ -51,7 +51,7 @@ walked drawers v parts = each (λ draw i. draw v (slice_get parts i)) 0 drawers
 
 -- a text with its mark, or 0
 abbrev pub text_node : Option ℕ → List ℕ → Node
-text_node mark t = node.Text (unwrap_or mark 0) None t
+text_node mark t = node.Text (unwrap_or mark 0) t
 
 -- the text of an expression, if it has one
 abbrev pub shown_text : Option ℕ → Option (List ℕ) → List Node
@@ -60,7 +60,7 @@ shown_text mark t = option_to_list (option_map (text_node mark) t)
 -- an element without its children
 abbrev pub element_of : Page → List ℕ → List FragAttr → View → Opened → Element
 element_of page name attrs v old =
-    record { inst = page.inst; mark = unwrap_or (element_in old) 0; number = None; name = name; attributes = attributes page.program v attrs; typed = typed_in old; listeners = listeners page.program v attrs }
+    record { inst = page.inst; mark = unwrap_or (element_in old) 0; name = name; attributes = attributes page.program v attrs; typed = typed_in old; listeners = listeners page.program v attrs }
 
 -- an element with its children
 abbrev pub element_nodes : Page → List ℕ → List FragAttr → Walker → View → Opened → List Node

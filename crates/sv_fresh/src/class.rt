@@ -4,9 +4,9 @@ ghost use Rattle.std.specs.List.{list_any, position_or_len};
 ghost use Rattle.sv_fresh.specs.Class as spec;
 
 use crate::attr::{name_text, place, value_attr};
+use crate::classes::{spaced, with_word, words};
 use crate::scene::Here;
 use crate::values::holds_at;
-use crate::classes::{spaced, with_word, words};
 use std::alloc::Global;
 use sv_base::{Name, NoMemory, Text};
 use sv_code::{FragAttr, FragValue, Program};

@@ -6,6 +6,7 @@ mod attr;
 mod attributes;
 mod blocks;
 mod class;
+mod classes;
 mod draw;
 mod listeners;
 mod nodes;
@@ -13,6 +14,5 @@ mod page;
 mod scene;
 mod slots;
 mod values;
-mod classes;
 
 pub use page::render;

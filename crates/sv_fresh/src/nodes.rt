@@ -21,7 +21,6 @@ pub fn text_node(mark: Option<u64>, text: Text) -> Node
 {
     Node::Text {
         mark: mark.unwrap_or(0),
-        number: None,
         text,
     }
 }
@@ -67,7 +66,6 @@ pub fn element(
     Ok(Element {
         inst: here.scene.inst,
         mark: element_of(shape).unwrap_or(0),
-        number: None,
         name,
         attributes,
         typed,

@@ -53,10 +53,10 @@ laid None attributes = attributes
 laid (Some (typed.Text text)) attributes = lay (codes "value") (attr.Text text) attributes
 laid (Some (typed.Checked checked)) attributes = if checked then lay (codes "checked") attr.Flag attributes else strip (codes "checked") attributes
 
--- a printed number between two texts, where numbers are asked for and there is one
-abbrev pub number_html : (numbers : Bool) (before after : List ℕ) → Option ℕ → List ℕ
-number_html numbers before after None = []
-number_html numbers before after (Some number) = if numbers then before ++ decimal number ++ after else []
+-- a printed number between two texts, where there is one
+abbrev pub number_html : (before after : List ℕ) → Option ℕ → List ℕ
+number_html before after None = []
+number_html before after (Some number) = before ++ decimal number ++ after
 
 -- the void elements, which have no children and no end tag
 abbrev pub is_void_to_command : List ℕ → Bool
@@ -74,22 +74,26 @@ is_void_to_wbr name = bytes_eq name (codes "source") || bytes_eq name (codes "tr
 abbrev pub is_void : List ℕ → Bool
 is_void name = is_void_to_command name || is_void_to_input name || is_void_to_param name || is_void_to_wbr name
 
--- the tag that begins an element
-abbrev pub start_html : Bool → Option ℕ → Element → List ℕ
-start_html numbers number e = 60 ∷ e.name ++ number_html numbers (codes " sv=\"") (codes "\"") number ++ attributes_html (laid e.typed e.attributes) ++ 62 ∷ []
+-- the tag that begins an element, with its printed number
+abbrev pub start_html : Option ℕ → Element → List ℕ
+start_html number e = 60 ∷ e.name ++ number_html (codes " sv=\"") (codes "\"") number ++ attributes_html (laid e.typed e.attributes) ++ 62 ∷ []
 
 -- the tag that ends an element
 abbrev pub end_html : List ℕ → List ℕ
 end_html name = if is_void name then [] else codes "</" ++ name ++ 62 ∷ []
 
 -- a text, with its printed number in a comment before it
-abbrev pub numbered_text_html : Bool → Option ℕ → List ℕ → List ℕ
-numbered_text_html numbers number bytes = number_html numbers (codes "<!--") (codes "-->") number ++ text_html bytes
+abbrev pub numbered_text_html : Option ℕ → List ℕ → List ℕ
+numbered_text_html number bytes = number_html (codes "<!--") (codes "-->") number ++ text_html bytes
+
+-- a number where numbers are asked for
+abbrev pub asked : (numbers : Bool) → Option ℕ → Option ℕ
+asked numbers number = if numbers then number else None
 
 -- the page itself shows nothing of its own, and an anchor nothing
 abbrev pub token_html : Bool → Token → List ℕ
-token_html numbers (Open node parent number e) = if node.serial == 0 then [] else start_html numbers number e
-token_html numbers (Text node parent number bytes) = numbered_text_html numbers number bytes
+token_html numbers (Open node parent number e) = if node.serial == 0 then [] else start_html (asked numbers number) e
+token_html numbers (Text node parent number bytes) = numbered_text_html (asked numbers number) bytes
 token_html numbers (Anchor key parent) = []
 token_html numbers (Close node name) = if node.serial == 0 then [] else end_html name
 

@@ -19,18 +19,13 @@ pub struct Tag<'a> {
     pub typed: &'a Option<Typed>,
 }
 
-/// The tag that begins an element. With `numbers` it shows the element's printed number as the attribute `sv`.
-pub fn push_start(
-    alloc: Global,
-    out: &mut Vec<u8>,
-    numbers: bool,
-    tag: Tag<'_>,
-) -> Result<(), NoMemory>
-    ensures { OnOk result (out.new.items ≡ out.old.items ++ start_html numbers tag.entry.number (element_of tag.entry)) }
+/// The tag that begins an element. It shows the element's printed number, if there is one, as the attribute `sv`.
+pub fn push_start(alloc: Global, out: &mut Vec<u8>, tag: Tag<'_>) -> Result<(), NoMemory>
+    ensures { OnOk result (out.new.items ≡ out.old.items ++ start_html tag.entry.number (element_of tag.entry)) }
 {
     out.push(b'<')?;
     out.extend_from_slice(tag.name.as_bytes())?;
-    push_number(alloc, out, numbers, " sv=\"", tag.number, "\"")?;
+    push_number(alloc, out, " sv=\"", tag.number, "\"")?;
     push_laid(out, tag.attributes, tag.typed)?;
     out.push(b'>')?;
     Ok(())
@@ -49,34 +44,32 @@ pub fn push_end(out: &mut Vec<u8>, name: &str) -> Result<(), NoMemory>
     Ok(())
 }
 
-/// A text. With `numbers` its printed number stands in a comment before it.
+/// A text. Its printed number, if there is one, stands in a comment before it.
 pub fn push_text(
     alloc: Global,
     out: &mut Vec<u8>,
-    numbers: bool,
     number: Option<u64>,
     text: &str,
 ) -> Result<(), NoMemory>
-    ensures { OnOk result (out.new.items ≡ out.old.items ++ numbered_text_html numbers number text.now) }
+    ensures { OnOk result (out.new.items ≡ out.old.items ++ numbered_text_html number text.now) }
 {
-    push_number(alloc, out, numbers, "<!--", number, "-->")?;
+    push_number(alloc, out, "<!--", number, "-->")?;
     push_bytes(out, text.as_bytes())
 }
 
-// A printed number between two texts, where numbers are asked for.
+// A printed number between two texts, if there is one.
 fn push_number(
     alloc: Global,
     out: &mut Vec<u8>,
-    numbers: bool,
     before: &str,
     number: Option<u64>,
     after: &str,
 ) -> Result<(), NoMemory>
-    ensures { OnOk result (out.new.items ≡ out.old.items ++ number_html numbers before.now after.now number) }
+    ensures { OnOk result (out.new.items ≡ out.old.items ++ number_html before.now after.now number) }
 {
     match number {
-        Some(number) if numbers => push_between(alloc, out, before, number, after),
-        _ => Ok(()),
+        Some(number) => push_between(alloc, out, before, number, after),
+        None => Ok(()),
     }
 }
 
