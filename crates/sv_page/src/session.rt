@@ -1,8 +1,9 @@
 // Sessions.
-ghost use Rattle.std.specs.Prelude.{◌≡◌, IfOk, OnOk, OnErr, false};
+ghost use Rattle.std.specs.Prelude.{◌≡◌, IfOk, OnOk, OnErr};
+ghost use Rattle.sv_document.specs.Numbers.{numbered, unnumbered};
 ghost use Rattle.sv_document.specs.Printed.{html};
 ghost use Rattle.sv_flush.specs.Page.{blank};
-ghost use Rattle.sv_page.specs.Plays.{Plays, Turns, IsShown, program_of};
+ghost use Rattle.sv_page.specs.Plays.{Plays, Turns, IsShown, Keeps, told, program_of, shown_numbers};
 ghost use Rattle.sv_page.specs.Turns as spec;
 
 use crate::stage::{Stage, TurnError, Turned};
@@ -10,17 +11,18 @@ use crate::turns::{first_turn, next_turn};
 use std::alloc::Global;
 use sv_base::{NoMemory, Text};
 use sv_code::Program;
-use sv_document::{Nodes, print};
+use sv_document::{Nodes, Numbers, print};
 use sv_events::Event;
 use sv_flush::{Machine, Page};
 use sv_fresh::render;
 
-/// A program on a page: what scripts left, what is shown, and how far the page is.
+/// A program on a page: what scripts left, what is shown and how that is numbered, and how far the page is.
 #[derive(Drop)]
 pub struct Session<'a> {
     machine: Machine<'a>,
     page: Page,
     nodes: Nodes,
+    numbers: Numbers,
     stage: Stage,
 }
 
@@ -29,12 +31,14 @@ impl<'a> Session<'a> {
     pub fn begin(alloc: Global, program: &'a Program) -> Result<Session<'a>, NoMemory>
         ensures program { IfOk result (λ session. program_of session ≡ program.now) }
         ensures page { IfOk result (λ session. session.page ≡ blank) }
+        ensures numbers { IfOk result (λ session. session.numbers ≡ unnumbered) }
         ensures stage { IfOk result (λ session. session.stage ≡ Stage.New) }
     {
         Ok(Session {
             machine: Machine { alloc, program },
             page: Page::new(alloc)?,
             nodes: Nodes::new(alloc),
+            numbers: Numbers::new(alloc),
             stage: Stage::New,
         })
     }
@@ -64,16 +68,30 @@ impl<'a> Session<'a> {
     // What the page shows now, for the next event.
     fn show(&mut self, target: bool) -> Result<Turned, NoMemory>
         ensures shown { OnOk result (IsShown self.new) }
-        ensures target { IfOk result (λ turned. turned.target ≡ target) }
+        ensures told { IfOk result (λ turned. turned ≡ told target self.old.page) }
         ensures stage { OnErr result (self.new.stage ≡ self.old.stage) }
         ensures page { self.new.page ≡ self.old.page }
-        ensures machine { self.new.machine ≡ self.old.machine }
+        ensures rest { Keeps self.old self.new }
     {
         let machine = &self.machine;
         let page = &self.page;
         self.nodes = render(machine.alloc, machine.program, &page.world, &page.showing)?;
         self.stage = Stage::Running;
-        Ok(Turned { target })
+        Ok(Turned {
+            target,
+            evaluations: page.tally.count,
+            instances: page.world.instances(),
+            subscriptions: page.world.subscriptions(),
+        })
+    }
+
+    /// Numbers what is shown: in document order each element and each text that has no number gets the next one, and the others keep
+    /// theirs. A place that stays from turn to turn keeps its number, and no number is given twice.
+    pub fn number(&mut self) -> Result<(), NoMemory>
+        ensures ok { OnOk result (self.new ≡ record self.old { numbers = numbered self.old.nodes self.old.numbers }) }
+        ensures err { OnErr result (self.new ≡ self.old) }
+    {
+        self.numbers.number(self.nodes.as_slice())
     }
 
     /// The program.
@@ -97,10 +115,11 @@ impl<'a> Session<'a> {
         self.page.world.turn.log()
     }
 
-    /// The text of the page as it was shown last.
-    pub fn html(&self) -> Result<Vec<u8>, NoMemory>
-        ensures { IfOk result (λ text. text.items ≡ html false self.now.nodes) }
+    /// The text of the page as it was shown last, with the numbers that were given or without.
+    pub fn html(&self, numbers: bool) -> Result<Vec<u8>, NoMemory>
+        ensures { IfOk result (λ text. text.items ≡ html (shown_numbers numbers self.now.numbers) self.now.nodes) }
     {
-        print(self.machine.alloc, self.nodes.as_slice(), false)
+        let numbers = if numbers { Some(&self.numbers) } else { None };
+        print(self.machine.alloc, self.nodes.as_slice(), numbers)
     }
 }

@@ -17,10 +17,15 @@ pub enum Stage {
     Stopped,
 }
 
-/// What is told of a turn: whether there was an element for its event. The first turn has no event, and counts as one that had.
+/// What is told of a turn: whether there was an element for its event, how many expressions of markup were evaluated for the page, those
+/// of `on:` not among them, and how many instances and subscriptions to stores there are now. The first turn has no event, and counts as
+/// one that had an element for it.
 #[derive(Clone, Copy, Debug, PartialEq, Eq)]
 pub struct Turned {
     pub target: bool,
+    pub evaluations: u64,
+    pub instances: u64,
+    pub subscriptions: u64,
 }
 
 /// What is answered in place of a turn.

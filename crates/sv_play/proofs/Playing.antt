@@ -1,8 +1,10 @@
 -- How far a run has been printed.
-use Rattle.std.proofs.Common.{◌≡◌, ◌<◌, ◌≤◌, ◌+◌, ℕ, suc, List, [], ◌∷◌, ◌++◌, length, get_or, drop, Bool, true, false, Option, Result, Ok, Err, is_err, refl, ap, sym, subst, ◌∙◌, append_assoc, append-nil, add-one, drop-cons}
+use Rattle.std.proofs.Common.{◌≡◌, ◌<◌, ◌≤◌, ◌+◌, ℕ, suc, List, [], ◌++◌, length, get_or, drop, Bool, true, false, Option, Result, Ok, Err, is_err, refl, ap, sym, subst, ◌∙◌, append_assoc, append-nil, add-one, drop-cons}
 use Rattle.std.proofs.lemmas.Bool.{true≢false}
 use Rattle.std.proofs.lemmas.List.{drop_all}
+use Rattle.std.specs.List.{list_any}
 use Rattle.sv_code.specs.declared.program.Program.{Program}
+use Rattle.sv_document.specs.Numbers.{Numbers, unnumbered}
 use Rattle.sv_events.specs.declared.event.Event.{Event}
 use Rattle.sv_flush.specs.Outcome.{Outcome, Done, Halted}
 use Rattle.sv_flush.specs.Page.{blank}
@@ -10,12 +12,14 @@ use Rattle.sv_flush.specs.declared.page.Page.{Page}
 use Rattle.sv_io.proofs.Written.{with_bytes-twice, with_bytes-none}
 use Rattle.sv_io.specs.Sink.{with_bytes, AppendsFront}
 use Rattle.sv_page.specs.Plays.{IsShown, Plays, PlaysBody, Turns, TurnsAt, program_of}
+use Rattle.sv_page.specs.Run.{followed, turns, run}
 use Rattle.sv_page.specs.Turns.{first_turn, next_turn, nodes_of}
 use Rattle.sv_page.specs.declared.session.Session.{Session}
 use Rattle.sv_page.specs.declared.stage.TurnError.{TurnError}
-use Rattle.sv_page.specs.declared.stage.TurnError.TheVariants as error
 use Rattle.sv_page.specs.declared.stage.Turned.{Turned}
-use Rattle.sv_play.specs.Run.{Printed, before, turn_text, is_refused, more_of, followed, turns, run}
+use Rattle.sv_play.specs.Run.{printed, page_text, turn_text, turn_texts, renumbered, is_refused}
+use Rattle.sv_play.specs.Session.{counted, shown}
+use Rattle.sv_play.specs.declared.flags.Flags.{Flags}
 
 -- ---- sessions
 
@@ -26,206 +30,307 @@ pub record Goes (s : Session) (o : Outcome Bool) : Type 0 where
   pub shown : IsShown s
 
 pub goes : (answer : Result Turned TurnError) (s : Session) (o : Outcome Bool) → is_err answer ≡ false → PlaysBody answer s o → Goes s o
-goes (Ok turned) s o ok played = record { target = turned.target; is = played.0; shown = played.1 }
+goes (Ok turned) s o ok played = record { target = turned.target; is = played.0; shown = played.1.1 }
 goes (Err e) s o ok played = absurd (true≢false ok)
 
 -- the turn of an event on a page that is shown
 pub turn-is : (p : Program) (r : Result Turned TurnError) (s s' : Session) (e : Event) → program_of s ≡ p → IsShown s → Turns r s s' e
     → Plays r s s' (next_turn p e (nodes_of p s.page) s.page)
-turn-is p r s s' e same shown turned =
-    let at : Plays r s s' (next_turn (program_of s) e s.nodes s.page) = subst (λ g. TurnsAt g r s s' e) shown.running turned in
+turn-is p r s s' e same is_shown turned =
+    let at : Plays r s s' (next_turn (program_of s) e s.nodes s.page) = subst (λ g. TurnsAt g r s s' e) is_shown.running turned in
     let with_nodes : Plays r s s' (next_turn (program_of s) e (nodes_of (program_of s) s.page) s.page) =
-    subst (λ ns. Plays r s s' (next_turn (program_of s) e ns s.page)) shown.shown at in
+    subst (λ ns. Plays r s s' (next_turn (program_of s) e ns s.page)) is_shown.shown at in
     subst (λ q. Plays r s s' (next_turn q e (nodes_of q s.page) s.page)) same with_nodes
+
+-- printing a turn gives numbers and changes nothing else
+page-printed : (flags : Flags) (answer : Result Turned TurnError) (s : Session) → (shown flags answer s).page ≡ s.page
+page-printed flags (Ok turned) s = refl
+page-printed flags (Err e) s = refl
+
+program-printed : (flags : Flags) (answer : Result Turned TurnError) (s : Session) → program_of (shown flags answer s) ≡ program_of s
+program-printed flags (Ok turned) s = refl
+program-printed flags (Err e) s = refl
+
+shown-printed : (flags : Flags) (answer : Result Turned TurnError) (s : Session) → IsShown s → IsShown (shown flags answer s)
+shown-printed flags (Ok turned) s is = record { shown = is.shown; running = is.running }
+shown-printed flags (Err e) s is = is
+
+numbers-printed : (flags : Flags) (answer : Result Turned TurnError) (s : Session) → is_err answer ≡ false → (shown flags answer s).numbers ≡ renumbered flags s.nodes s.numbers
+numbers-printed flags (Ok turned) s ok = refl
+numbers-printed flags (Err e) s ok = absurd (true≢false ok)
+
+-- ---- turns and their texts
+
+module _ (p : Program) (flags : Flags) (number : ℕ) (ns : Numbers) (o : Outcome Bool) (more : Page → List (Outcome Bool)) where
+  -- what is printed behind the turn
+  abbrev pub behind : Outcome Bool → List ℕ
+  behind (Done target m) = turn_texts p flags (suc number) (renumbered flags (nodes_of p m) ns) (more m)
+  behind (Halted r m) = []
+
+  texts-followed : turn_texts p flags number ns (followed o more) ≡ turn_text p flags number ns o ++ behind o
+  texts-followed = by o where
+    by : (x : Outcome Bool) → turn_texts p flags number ns (followed x more) ≡ turn_text p flags number ns x ++ behind x
+    by (Done target m) = refl
+    by (Halted r m) = refl
+
+  texts-done : (target : Bool) (m : Page) → o ≡ Done target m
+      → turn_texts p flags number ns (followed o more) ≡ turn_text p flags number ns o ++ turn_texts p flags (suc number) (renumbered flags (nodes_of p m) ns) (more m)
+  texts-done target m is = texts-followed ∙ ap (λ x. turn_text p flags number ns o ++ behind x) is
+
+  any-done : (target : Bool) (m : Page) → o ≡ Done target m → list_any is_refused (followed o more) ≡ list_any is_refused (more m)
+  any-done target m is = ap (λ x. list_any is_refused (followed x more)) is
+
+  behind-refused : (x : Outcome Bool) → is_refused x ≡ true → behind x ≡ []
+  behind-refused (Done target m) is = absurd (true≢false (sym is))
+  behind-refused (Halted r m) is = refl
+
+  texts-refused : is_refused o ≡ true → turn_texts p flags number ns (followed o more) ≡ turn_text p flags number ns o
+  texts-refused is = texts-followed ∙ (ap (λ t. turn_text p flags number ns o ++ t) (behind-refused o is) ∙ append-nil (turn_text p flags number ns o))
+
+  any-refused : (x : Outcome Bool) → is_refused x ≡ true → list_any is_refused (followed x more) ≡ true
+  any-refused (Done target m) is = absurd (true≢false (sym is))
+  any-refused (Halted r m) is = refl
 
 -- ---- what was printed
 
+-- what a run prints, and whether it ends refused
+abbrev run_text : Program → Flags → List Event → List ℕ
+run_text p flags events = turn_texts p flags 0 unnumbered (run p events)
+
+abbrev run_refused : Program → List Event → Bool
+run_refused p events = list_any is_refused (run p events)
+
+printed-is : (p : Program) (flags : Flags) (events : List Event) → printed p flags events ≡ record { text = run_text p flags events; refused = run_refused p events }
+unfolding printed
+printed-is p flags events = refl
+
 -- these bytes were written, and the turns of the events from one with a number on are left
-pub record Played (p : Program) (logs : Bool) (events : List Event) (old now : Option (List ℕ)) (index : ℕ) (page : Page) : Type 0 where
+pub record Played (p : Program) (flags : Flags) (events : List Event) (old now : Option (List ℕ)) (index : ℕ) (s : Session) : Type 0 where
   pub done : List ℕ
   pub written : now ≡ with_bytes old done
-  pub all : run p logs events ≡ before done (turns p logs (suc index) (drop index events) page)
+  pub text : run_text p flags events ≡ done ++ turn_texts p flags (suc index) s.numbers (turns p (drop index events) s.page)
+  pub rest : run_refused p events ≡ list_any is_refused (turns p (drop index events) s.page)
 
--- the first turn was printed
-pub played-first : (p : Program) (logs : Bool) (events : List Event) (old now : Option (List ℕ)) (o : Outcome Bool) (target : Bool) (m : Page) → o ≡ first_turn p blank → o ≡ Done target m
-    → now ≡ with_bytes old (turn_text p logs 0 o) → Played p logs events old now 0 m
-unfolding run
-played-first p logs events old now o target m first is written = record {
-  done = turn_text p logs 0 o;
-  written = written;
-  all = ap (λ x. followed p logs 0 x (turns p logs 1 events)) (sym first ∙ is) ∙ ap (λ x. before (turn_text p logs 0 x) (turns p logs 1 events m)) (sym is);
+-- a front of a text that has more behind it
+front-more : (old new : Option (List ℕ)) (text more whole : List ℕ) → whole ≡ text ++ more → AppendsFront old new text → AppendsFront old new whole
+front-more old new text more whole is f = record {
+  front = f.front;
+  rest = f.rest ++ more;
+  parts = is ∙ (ap (λ t. t ++ more) f.parts ∙ append_assoc f.front f.rest more);
+  appended = f.appended;
 }
 
--- one more turn
-pub played-next : (p : Program) (logs : Bool) (events : List Event) (old now new : Option (List ℕ)) (i : ℕ) (page m : Page) (event : Event) (o : Outcome Bool) (target : Bool)
-    → Played p logs events old now i page → i < length events → event ≡ get_or events i event → o ≡ next_turn p event (nodes_of p page) page → o ≡ Done target m
-    → new ≡ with_bytes now (turn_text p logs (suc i) o) → Played p logs events old new (i + 1) m
-played-next p logs events old now new i page m event o target played below at turn is written =
-    let rest : Printed = turns p logs (suc (suc i)) (drop (suc i) events) m in
-    let text : List ℕ = turn_text p logs (suc i) o in
-    let one : turns p logs (suc i) (drop i events) page ≡ before text rest =
-    rw (drop-cons events i event below, ← at) (ap (λ x. followed p logs (suc i) x (turns p logs (suc (suc i)) (drop (suc i) events))) (sym turn ∙ is)
-    ∙ ap (λ x. before (turn_text p logs (suc i) x) rest) (sym is)) in
-    record {
-      done = played.done ++ text;
-      written = written ∙ (ap (λ w. with_bytes w text) played.written ∙ with_bytes-twice old played.done text);
-      all = played.all ∙ (ap (before played.done) one ∙ (ap (λ t. record rest { text = t }) (sym (append_assoc played.done text rest.text))
-          ∙ rw add-one refl));
-    }
-
--- ---- runs that end
-
--- a turn that was refused ends what is printed
-ended : (p : Program) (logs : Bool) (number : ℕ) (o : Outcome Bool) (more : Page → Printed) → is_refused o ≡ true
-    → followed p logs number o more ≡ record { text = turn_text p logs number o; refused = true }
-ended p logs number (Done target m) more is = absurd (true≢false (sym is))
-ended p logs number (Halted r m) more is = ap (λ t. record { text = t; refused = true }) (append-nil (turn_text p logs number (Halted r m)))
-
-pub refused-first : (p : Program) (logs : Bool) (events : List Event) (o : Outcome Bool) → o ≡ first_turn p blank → is_refused o ≡ true
-    → run p logs events ≡ record { text = turn_text p logs 0 o; refused = true }
-unfolding run
-refused-first p logs events o first is = ap (λ x. followed p logs 0 x (turns p logs 1 events)) (sym first) ∙ ended p logs 0 o (turns p logs 1 events) is
-
-pub refused-next : (p : Program) (logs : Bool) (events : List Event) (old now : Option (List ℕ)) (i : ℕ) (page : Page) (event : Event) (o : Outcome Bool)
-    (played : Played p logs events old now i page) → i < length events → event ≡ get_or events i event → o ≡ next_turn p event (nodes_of p page) page → is_refused o ≡ true
-    → run p logs events ≡ record { text = played.done ++ turn_text p logs (suc i) o; refused = true }
-refused-next p logs events old now i page event o played below at turn is =
-    let more : Page → Printed = turns p logs (suc (suc i)) (drop (suc i) events) in
-    let one : turns p logs (suc i) (drop i events) page ≡ record { text = turn_text p logs (suc i) o; refused = true } =
-    rw (drop-cons events i event below, ← at) (ap (λ x. followed p logs (suc i) x more) (sym turn) ∙ ended p logs (suc i) o more is) in
-    played.all ∙ ap (before played.done) one
-
--- all turns were printed
-pub played-all : (p : Program) (logs : Bool) (events : List Event) (old now : Option (List ℕ)) (i : ℕ) (page : Page) (played : Played p logs events old now i page)
-    → length events ≤ i → run p logs events ≡ record { text = played.done; refused = false }
-played-all p logs events old now i page played past =
-    played.all ∙ (ap (λ es. before played.done (turns p logs (suc i) es page)) (drop_all i events past) ∙ ap (λ t. record { text = t; refused = false }) (append-nil played.done))
-
--- ---- fronts of what is printed
+-- a front of what follows bytes that were written
+front-behind : (old now new : Option (List ℕ)) (done text : List ℕ) → now ≡ with_bytes old done → AppendsFront now new text → AppendsFront old new (done ++ text)
+front-behind old now new done text written f = record {
+  front = done ++ f.front;
+  rest = f.rest;
+  parts = ap (λ t. done ++ t) f.parts ∙ sym (append_assoc done f.front f.rest);
+  appended = f.appended ∙ (ap (λ w. with_bytes w f.front) written ∙ with_bytes-twice old done f.front);
+}
 
 pub front-nothing : (old : Option (List ℕ)) (bytes : List ℕ) → AppendsFront old old bytes
 front-nothing old bytes = record { front = []; rest = bytes; parts = refl; appended = sym (with_bytes-none old) }
 
--- a front of the first turn
-pub front-first : (p : Program) (logs : Bool) (events : List Event) (old new : Option (List ℕ)) (o : Outcome Bool) → o ≡ first_turn p blank
-    → AppendsFront old new (turn_text p logs 0 o) → AppendsFront old new (run p logs events).text
-unfolding run
-front-first p logs events old new o first f =
-    let more : List ℕ = (more_of o (turns p logs 1 events)).text in
-    record {
-      front = f.front;
-      rest = f.rest ++ more;
-      parts = ap (λ x. (followed p logs 0 x (turns p logs 1 events)).text) (sym first) ∙ (ap (λ t. t ++ more) f.parts ∙ append_assoc f.front f.rest more);
-      appended = f.appended;
-    }
+-- all turns were printed
+module _ (p : Program) (flags : Flags) (events : List Event) (old now : Option (List ℕ)) (i : ℕ) (s : Session) (played : Played p flags events old now i s) where
+  pub all-text : length events ≤ i → now ≡ with_bytes old (printed p flags events).text
+  all-text past =
+      played.written ∙ ap (with_bytes old) (sym (ap (λ x. x.text) (printed-is p flags events) ∙ (played.text
+      ∙ (ap (λ es. played.done ++ turn_texts p flags (suc i) s.numbers (turns p es s.page)) (drop_all i events past) ∙ append-nil played.done))))
 
--- a front of what was printed before a turn
-pub front-played : (p : Program) (logs : Bool) (events : List Event) (old now : Option (List ℕ)) (i : ℕ) (page : Page) → Played p logs events old now i page
-    → AppendsFront old now (run p logs events).text
-front-played p logs events old now i page played = record {
-  front = played.done;
-  rest = (turns p logs (suc i) (drop i events) page).text;
-  parts = ap (λ x. x.text) played.all;
-  appended = played.written;
-}
+  pub all-refused : length events ≤ i → false ≡ (printed p flags events).refused
+  all-refused past =
+      sym (ap (λ x. x.refused) (printed-is p flags events) ∙ (played.rest ∙ ap (λ es. list_any is_refused (turns p es s.page)) (drop_all i events past)))
 
--- a front of one more turn
-pub front-next : (p : Program) (logs : Bool) (events : List Event) (old now new : Option (List ℕ)) (i : ℕ) (page : Page) (event : Event) (o : Outcome Bool)
-    → Played p logs events old now i page → i < length events → event ≡ get_or events i event → o ≡ next_turn p event (nodes_of p page) page
-    → AppendsFront now new (turn_text p logs (suc i) o) → AppendsFront old new (run p logs events).text
-front-next p logs events old now new i page event o played below at turn f =
-    let go : Page → Printed = turns p logs (suc (suc i)) (drop (suc i) events) in
-    let more : List ℕ = (more_of o go).text in
-    let one : (turns p logs (suc i) (drop i events) page).text ≡ turn_text p logs (suc i) o ++ more =
-    rw (drop-cons events i event below, ← at) (ap (λ x. (followed p logs (suc i) x go).text) (sym turn)) in
-    record {
-      front = played.done ++ f.front;
-      rest = f.rest ++ more;
-      parts = ap (λ x. x.text) played.all ∙ (ap (λ t. played.done ++ t) (one ∙ (ap (λ t. t ++ more) f.parts ∙ append_assoc f.front f.rest more)) ∙ sym (append_assoc played.done f.front _));
-      appended = f.appended ∙ (ap (λ w. with_bytes w f.front) played.written ∙ with_bytes-twice old played.done f.front);
-    }
+-- ---- what code says of a turn that it prints
 
--- ---- the first turn, as code plays and prints it
-
-abbrev Fronts : Result Turned TurnError → Session → Option (List ℕ) → Option (List ℕ) → Bool → ℕ → Type 0
-Fronts answer s old new logs number = (o : Outcome Bool) → PlaysBody answer s o → AppendsFront old new (turn_text (program_of s) logs number o)
+abbrev Fronts : Flags → Result Turned TurnError → Session → Option (List ℕ) → Option (List ℕ) → ℕ → Type 0
+Fronts flags answer s old new number = (o : Outcome Bool) → PlaysBody answer s o → AppendsFront old new (turn_text (program_of s) flags number s.numbers o)
 
 abbrev Tells : Result Turned TurnError → Session → Bool → Type 0
 Tells answer s refused = (o : Outcome Bool) → PlaysBody answer s o → refused ≡ is_refused o
 
-abbrev Writes : Result Turned TurnError → Session → Option (List ℕ) → Option (List ℕ) → Bool → ℕ → Type 0
-Writes answer s old new logs number = (o : Outcome Bool) → PlaysBody answer s o → new ≡ with_bytes old (turn_text (program_of s) logs number o)
+abbrev Writes : Flags → Result Turned TurnError → Session → Option (List ℕ) → Option (List ℕ) → ℕ → Type 0
+Writes flags answer s old new number = (o : Outcome Bool) → PlaysBody answer s o → new ≡ with_bytes old (turn_text (program_of s) flags number s.numbers o)
 
-module _ (p : Program) (logs : Bool) (events : List Event) (old new : Option (List ℕ)) (answer : Result Turned TurnError) (begun s : Session)
-    (program : program_of begun ≡ p) (page : begun.page ≡ blank) (plays : Plays answer begun s (first_turn (program_of begun) begun.page)) where
+-- the text of a turn that was played
+turn-text : (flags : Flags) (number : ℕ) (answer : Result Turned TurnError) (turned : Turned) (s s' : Session) (text : List ℕ) → answer ≡ Ok turned → s' ≡ counted flags s
+    → text ≡ page_text flags number turned.target s'.page s'.numbers s'.nodes → (o : Outcome Bool) → PlaysBody answer s o → text ≡ turn_text (program_of s) flags number s.numbers o
+turn-text flags number answer turned s s' text is printing made o played =
+    let done : PlaysBody (Ok turned) s o = subst (λ a. PlaysBody a s o) is played in
+    made ∙ (ap (λ x. page_text flags number turned.target x.page x.numbers x.nodes) printing
+    ∙ (ap (λ ns. page_text flags number turned.target s.page (renumbered flags ns s.numbers) ns) done.1.1.shown ∙ ap (turn_text (program_of s) flags number s.numbers) (sym done.0)))
+
+pub turn-front : (flags : Flags) (number : ℕ) (answer : Result Turned TurnError) (turned : Turned) (s s' : Session) (text : List ℕ) (old new : Option (List ℕ)) → answer ≡ Ok turned
+    → s' ≡ counted flags s → text ≡ page_text flags number turned.target s'.page s'.numbers s'.nodes → AppendsFront old new text → Fronts flags answer s old new number
+turn-front flags number answer turned s s' text old new is printing made f = λ o played. subst (AppendsFront old new) (turn-text flags number answer turned s s' text is printing made o played) f
+
+pub turn-written : (flags : Flags) (number : ℕ) (answer : Result Turned TurnError) (turned : Turned) (s s' : Session) (text : List ℕ) (old new : Option (List ℕ)) → answer ≡ Ok turned
+    → s' ≡ counted flags s → text ≡ page_text flags number turned.target s'.page s'.numbers s'.nodes → new ≡ with_bytes old text → Writes flags answer s old new number
+turn-written flags number answer turned s s' text old new is printing made written = λ o played. written ∙ ap (with_bytes old) (turn-text flags number answer turned s s' text is printing made o played)
+
+-- ---- the first turn
+
+module _ (p : Program) (flags : Flags) (events : List Event) (old new : Option (List ℕ)) (answer : Result Turned TurnError) (begun s : Session)
+    (program : program_of begun ≡ p) (page : begun.page ≡ blank) (numbers : begun.numbers ≡ unnumbered) (plays : Plays answer begun s (first_turn (program_of begun) begun.page)) where
   abbrev pub first : Outcome Bool
   first = first_turn p blank
 
   first-played : PlaysBody answer s first
   first-played = subst (λ m. PlaysBody answer s (first_turn p m)) page (subst (λ q. PlaysBody answer s (first_turn q begun.page)) program plays.plays)
 
+  pub first-is : (o : Outcome Bool) × PlaysBody answer s o
+  first-is = (first, first-played)
+
   pub first-program : program_of s ≡ p
-  first-program = ap (λ m. m.program.now) plays.same ∙ program
+  first-program = ap (λ m. m.program.now) plays.keeps.machine ∙ program
 
-  pub first-fronts : Fronts answer s old new logs 0 → AppendsFront old new (run p logs events).text
-  first-fronts f = front-first p logs events old new first refl (subst (λ q. AppendsFront old new (turn_text q logs 0 first)) first-program (f first first-played))
+  first-numbers : s.numbers ≡ unnumbered
+  first-numbers = plays.keeps.numbers ∙ numbers
 
-  pub first-refused : (refused : Bool) → refused ≡ true → Tells answer s refused → run p logs events ≡ record { text = turn_text p logs 0 first; refused = true }
-  first-refused refused is tells = refused-first p logs events first refl (sym (tells first first-played) ∙ is)
+  first-text : turn_text (program_of s) flags 0 s.numbers first ≡ turn_text p flags 0 unnumbered first
+  first-text = ap (λ q. turn_text q flags 0 s.numbers first) first-program ∙ ap (λ ns. turn_text p flags 0 ns first) first-numbers
 
-  pub first-written : (refused : Bool) → refused ≡ true → Tells answer s refused → Writes answer s old new logs 0 → new ≡ with_bytes old (run p logs events).text
-  first-written refused is tells writes =
-      writes first first-played ∙ ap (with_bytes old) (ap (λ q. turn_text q logs 0 first) first-program ∙ sym (ap (λ x. x.text) (first-refused refused is tells)))
+  first-run : (printed p flags events).text ≡ turn_texts p flags 0 unnumbered (followed first (turns p events))
+  unfolding run
+  first-run = ap (λ x. x.text) (printed-is p flags events)
 
-  first-goes : (refused : Bool) → refused ≡ false → refused ≡ is_err answer → Goes s first
-  first-goes refused is same = goes answer s first (sym same ∙ is) first-played
+  first-any : (printed p flags events).refused ≡ list_any is_refused (followed first (turns p events))
+  unfolding run
+  first-any = ap (λ x. x.refused) (printed-is p flags events)
 
-  pub first-shown : (refused : Bool) → refused ≡ false → refused ≡ is_err answer → IsShown s
-  first-shown refused is same = (first-goes refused is same).shown
+  pub first-fronts : Fronts flags answer s old new 0 → AppendsFront old new (printed p flags events).text
+  first-fronts f =
+      front-more old new (turn_text p flags 0 unnumbered first) (behind p flags 0 unnumbered first (turns p events) first) (printed p flags events).text
+      (first-run ∙ texts-followed p flags 0 unnumbered first (turns p events)) (subst (AppendsFront old new) first-text (f first first-played))
 
-  pub first-printed : (refused : Bool) → refused ≡ false → refused ≡ is_err answer → Writes answer s old new logs 0 → Played p logs events old new 0 s.page
-  first-printed refused is same writes =
-      let g = first-goes refused is same in
-      played-first p logs events old new first g.target s.page refl g.is (writes first first-played ∙ ap (λ q. with_bytes old (turn_text q logs 0 first)) first-program)
+  module _ (refused : Bool) (tells : Tells answer s refused) (is : refused ≡ true) where
+    first-halted : is_refused first ≡ true
+    first-halted = sym (tells first first-played) ∙ is
+
+    pub first-refused : true ≡ (printed p flags events).refused
+    first-refused = sym (first-any ∙ any-refused p flags 0 unnumbered first (turns p events) first first-halted)
+
+    pub first-written : Writes flags answer s old new 0 → new ≡ with_bytes old (printed p flags events).text
+    first-written writes =
+        writes first first-played ∙ ap (with_bytes old) (first-text ∙ sym (first-run ∙ texts-refused p flags 0 unnumbered first (turns p events) first-halted))
+
+  module _ (refused : Bool) (same : refused ≡ is_err answer) (is : refused ≡ false) (s' : Session) (printing : s' ≡ shown flags answer s) where
+    first-goes : Goes s first
+    first-goes = goes answer s first (sym same ∙ is) first-played
+
+    pub first-shown : IsShown s'
+    first-shown = subst IsShown (sym printing) (shown-printed flags answer s first-goes.shown)
+
+    pub first-same : program_of s' ≡ p
+    first-same = ap program_of printing ∙ (program-printed flags answer s ∙ first-program)
+
+    first-page : s'.page ≡ s.page
+    first-page = ap (λ x. x.page) printing ∙ page-printed flags answer s
+
+    first-now : s'.numbers ≡ renumbered flags (nodes_of p s.page) unnumbered
+    first-now =
+        ap (λ x. x.numbers) printing ∙ (numbers-printed flags answer s (sym same ∙ is) ∙ (ap (λ ns. renumbered flags ns s.numbers) first-goes.shown.shown
+        ∙ (ap (λ q. renumbered flags (nodes_of q s.page) s.numbers) first-program ∙ ap (renumbered flags (nodes_of p s.page)) first-numbers)))
+
+    pub first-printed : Writes flags answer s old new 0 → Played p flags events old new 0 s'
+    unfolding run
+    first-printed writes = record {
+      done = turn_text p flags 0 unnumbered first;
+      written = writes first first-played ∙ ap (with_bytes old) first-text;
+      text = texts-done p flags 0 unnumbered first (turns p events) first-goes.target s.page first-goes.is
+          ∙ (ap (λ ns. turn_text p flags 0 unnumbered first ++ turn_texts p flags 1 ns (turns p events s.page)) (sym first-now)
+          ∙ ap (λ m. turn_text p flags 0 unnumbered first ++ turn_texts p flags 1 s'.numbers (turns p events m)) (sym first-page));
+      rest = any-done p flags 0 unnumbered first (turns p events) first-goes.target s.page first-goes.is ∙ ap (λ m. list_any is_refused (turns p events m)) (sym first-page);
+    }
 
 -- ---- a further turn
 
-module _ (p : Program) (logs : Bool) (events : List Event) (old now new : Option (List ℕ)) (i number : ℕ) (answer : Result Turned TurnError) (s s' : Session) (event : Event)
-    (program : program_of s ≡ p) (shown : IsShown s) (played : Played p logs events old now i s.page) (count : number ≡ i) (below : i < length events)
-    (at : event ≡ get_or events i event) (turned : Turns answer s s' event) where
+module _ (p : Program) (flags : Flags) (events : List Event) (old now new : Option (List ℕ)) (i number : ℕ) (answer : Result Turned TurnError) (begun s : Session) (event : Event)
+    (program : program_of begun ≡ p) (is_shown : IsShown begun) (played : Played p flags events old now i begun) (count : number ≡ i) (below : i < length events)
+    (at : event ≡ get_or events i event) (turned : Turns answer begun s event) where
   abbrev pub next : Outcome Bool
-  next = next_turn p event (nodes_of p s.page) s.page
+  next = next_turn p event (nodes_of p begun.page) begun.page
 
-  next-plays : Plays answer s s' next
-  next-plays = turn-is p answer s s' event program shown turned
+  abbrev left : Page → List (Outcome Bool)
+  left = turns p (drop (suc i) events)
 
-  pub next-program : program_of s' ≡ p
-  next-program = ap (λ m. m.program.now) next-plays.same ∙ program
+  next-plays : Plays answer begun s next
+  next-plays = turn-is p answer begun s event program is_shown turned
 
-  next-number : number + 1 ≡ suc i
-  next-number = ap (λ n. n + 1) count ∙ rw add-one refl
+  pub next-is : (o : Outcome Bool) × PlaysBody answer s o
+  next-is = (next, next-plays.plays)
 
-  next-text : turn_text (program_of s') logs (number + 1) next ≡ turn_text p logs (suc i) next
-  next-text = ap (λ q. turn_text q logs (number + 1) next) next-program ∙ ap (λ n. turn_text p logs n next) next-number
+  pub next-program : program_of s ≡ p
+  next-program = ap (λ m. m.program.now) next-plays.keeps.machine ∙ program
 
-  pub next-fronts : Fronts answer s' now new logs (number + 1) → AppendsFront old new (run p logs events).text
-  next-fronts f = front-next p logs events old now new i s.page event next played below at refl (subst (AppendsFront now new) next-text (f next next-plays.plays))
+  next-text : turn_text (program_of s) flags (number + 1) s.numbers next ≡ turn_text p flags (suc i) begun.numbers next
+  next-text =
+      ap (λ q. turn_text q flags (number + 1) s.numbers next) next-program ∙ (ap (λ ns. turn_text p flags (number + 1) ns next) next-plays.keeps.numbers
+      ∙ ap (λ n. turn_text p flags n begun.numbers next) (ap (λ n. n + 1) count ∙ rw add-one refl))
 
-  pub next-refused : (refused : Bool) → refused ≡ true → Tells answer s' refused → run p logs events ≡ record { text = played.done ++ turn_text p logs (suc i) next; refused = true }
-  next-refused refused is tells = refused-next p logs events old now i s.page event next played below at refl (sym (tells next next-plays.plays) ∙ is)
+  next-turns : turns p (drop i events) begun.page ≡ followed next left
+  next-turns = rw (drop-cons events i event below, ← at) refl
 
-  pub next-written : (refused : Bool) → refused ≡ true → Tells answer s' refused → Writes answer s' now new logs (number + 1) → new ≡ with_bytes old (run p logs events).text
-  next-written refused is tells writes =
-      writes next next-plays.plays ∙ (ap (with_bytes now) next-text ∙ (ap (λ w. with_bytes w (turn_text p logs (suc i) next)) played.written
-      ∙ (with_bytes-twice old played.done (turn_text p logs (suc i) next) ∙ ap (with_bytes old) (sym (ap (λ x. x.text) (next-refused refused is tells))))))
+  next-run : run_text p flags events ≡ played.done ++ turn_texts p flags (suc i) begun.numbers (followed next left)
+  next-run = played.text ∙ ap (λ os. played.done ++ turn_texts p flags (suc i) begun.numbers os) next-turns
 
-  next-goes : (refused : Bool) → refused ≡ false → refused ≡ is_err answer → Goes s' next
-  next-goes refused is same = goes answer s' next (sym same ∙ is) next-plays.plays
+  next-any : run_refused p events ≡ list_any is_refused (followed next left)
+  next-any = played.rest ∙ ap (list_any is_refused) next-turns
 
-  pub next-shown : (refused : Bool) → refused ≡ false → refused ≡ is_err answer → IsShown s'
-  next-shown refused is same = (next-goes refused is same).shown
+  next-whole : (printed p flags events).text ≡ played.done ++ turn_texts p flags (suc i) begun.numbers (followed next left)
+  next-whole = ap (λ x. x.text) (printed-is p flags events) ∙ next-run
 
-  pub next-printed : (refused : Bool) → refused ≡ false → refused ≡ is_err answer → Writes answer s' now new logs (number + 1) → Played p logs events old new (i + 1) s'.page
-  next-printed refused is same writes =
-      let g = next-goes refused is same in
-      played-next p logs events old now new i s.page s'.page event next g.target played below at refl g.is (writes next next-plays.plays ∙ ap (with_bytes now) next-text)
+  pub next-fronts : Fronts flags answer s now new (number + 1) → AppendsFront old new (printed p flags events).text
+  next-fronts f =
+      let text : List ℕ = turn_text p flags (suc i) begun.numbers next in
+      let more : List ℕ = behind p flags (suc i) begun.numbers next left next in
+      front-more old new (played.done ++ text) more (printed p flags events).text
+      (next-whole ∙ (ap (λ t. played.done ++ t) (texts-followed p flags (suc i) begun.numbers next left) ∙ sym (append_assoc played.done text more)))
+      (front-behind old now new played.done text played.written (subst (AppendsFront now new) next-text (f next next-plays.plays)))
+
+  -- what is written once the turn is
+  next-done : Writes flags answer s now new (number + 1) → new ≡ with_bytes old (played.done ++ turn_text p flags (suc i) begun.numbers next)
+  next-done writes =
+      writes next next-plays.plays ∙ (ap (with_bytes now) next-text ∙ (ap (λ w. with_bytes w (turn_text p flags (suc i) begun.numbers next)) played.written
+      ∙ with_bytes-twice old played.done (turn_text p flags (suc i) begun.numbers next)))
+
+  module _ (refused : Bool) (tells : Tells answer s refused) (is : refused ≡ true) where
+    next-halted : is_refused next ≡ true
+    next-halted = sym (tells next next-plays.plays) ∙ is
+
+    pub next-refused : true ≡ (printed p flags events).refused
+    next-refused = sym (ap (λ x. x.refused) (printed-is p flags events) ∙ (next-any ∙ any-refused p flags (suc i) begun.numbers next left next next-halted))
+
+    pub next-written : Writes flags answer s now new (number + 1) → new ≡ with_bytes old (printed p flags events).text
+    next-written writes =
+        next-done writes ∙ ap (with_bytes old) (sym (next-whole ∙ ap (λ t. played.done ++ t) (texts-refused p flags (suc i) begun.numbers next left next-halted)))
+
+  module _ (refused : Bool) (same : refused ≡ is_err answer) (is : refused ≡ false) (s' : Session) (printing : s' ≡ shown flags answer s) where
+    next-goes : Goes s next
+    next-goes = goes answer s next (sym same ∙ is) next-plays.plays
+
+    pub next-shown : IsShown s'
+    next-shown = subst IsShown (sym printing) (shown-printed flags answer s next-goes.shown)
+
+    pub next-same : program_of s' ≡ p
+    next-same = ap program_of printing ∙ (program-printed flags answer s ∙ next-program)
+
+    next-page : s'.page ≡ s.page
+    next-page = ap (λ x. x.page) printing ∙ page-printed flags answer s
+
+    next-now : s'.numbers ≡ renumbered flags (nodes_of p s.page) begun.numbers
+    next-now =
+        ap (λ x. x.numbers) printing ∙ (numbers-printed flags answer s (sym same ∙ is) ∙ (ap (λ ns. renumbered flags ns s.numbers) next-goes.shown.shown
+        ∙ (ap (λ q. renumbered flags (nodes_of q s.page) s.numbers) next-program ∙ ap (renumbered flags (nodes_of p s.page)) next-plays.keeps.numbers)))
+
+    pub next-printed : Writes flags answer s now new (number + 1) → Played p flags events old new (i + 1) s'
+    next-printed writes = record {
+      done = played.done ++ turn_text p flags (suc i) begun.numbers next;
+      written = next-done writes;
+      text = next-run ∙ (ap (λ t. played.done ++ t) (texts-done p flags (suc i) begun.numbers next left next-goes.target s.page next-goes.is)
+          ∙ (sym (append_assoc played.done (turn_text p flags (suc i) begun.numbers next) (turn_texts p flags (suc (suc i)) (renumbered flags (nodes_of p s.page) begun.numbers) (left s.page)))
+          ∙ rw (add-one, next-now, next-page) refl));
+      rest = next-any ∙ (any-done p flags (suc i) begun.numbers next left next-goes.target s.page next-goes.is ∙ rw (add-one, next-page) refl);
+    }

@@ -1,5 +1,5 @@
 -- The line of a refused turn.
-use Rattle.std.specs.Prelude.{ℕ, List, [], ◌∷◌, ◌++◌, Option, Some, None, All, ◌≡◌, true, codes, decimal, slice_get, if◌then◌else◌}
+use Rattle.std.specs.Prelude.{ℕ, List, [], ◌++◌, Option, Some, None, All, ◌≡◌, true, codes, decimal, slice_get, if◌then◌else◌}
 use Rattle.std.specs.Fmt.{signed_decimal}
 use Rattle.sv_base.specs.declared.span.Span.{Span}
 use Rattle.sv_code.specs.declared.program.Program.{Program}

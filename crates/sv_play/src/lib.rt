@@ -1,10 +1,14 @@
-//! What is printed of a run: the lines and the page of each turn, or why a turn is refused.
+//! What is printed of a run: the lines and the page of each turn, or why a turn is refused; or the sums of a whole run.
 #![tactic(auto)]
 
+mod faults;
+mod flags;
 mod lines;
 mod refused;
 mod run;
+mod summary;
 mod turn;
-mod faults;
 
+pub use flags::Flags;
 pub use run::play;
+pub use summary::summarize;
