@@ -20,19 +20,23 @@ def example(folder, name):
         return file.read()
 
 
-def measure(files, events):
-    """The processor seconds and the peak kilobytes of `run App.svelte events.json` on these files and events, with the reading of both."""
+def cost(words, files):
+    """The processor seconds and the peak kilobytes of a run with these words, in a folder with these files."""
     with tempfile.TemporaryDirectory() as folder:
-        texts = dict(files, **{'events.json': json.dumps({'version': 1, 'events': events})})
-        for name, text in texts.items():
+        for name, text in files.items():
             with open(os.path.join(folder, name), 'w') as file:
                 file.write(text)
         with open(os.devnull, 'wb') as out:
-            run = subprocess.Popen([PROGRAM, 'run', 'App.svelte', 'events.json'], cwd=folder, stdout=out)
+            run = subprocess.Popen([PROGRAM] + words, cwd=folder, stdout=out)
             _, status, usage = os.wait4(run.pid, 0)
         if status != 0:
-            sys.exit('the run of %d events ended with status %d' % (len(events), os.waitstatus_to_exitcode(status)))
+            sys.exit('`svp %s` ended with status %d' % (' '.join(words), os.waitstatus_to_exitcode(status)))
         return usage.ru_utime + usage.ru_stime, usage.ru_maxrss
+
+
+def measure(files, events):
+    """The cost of `run App.svelte events.json` on these files and events, with the reading of both."""
+    return cost(['run', 'App.svelte', 'events.json'], dict(files, **{'events.json': json.dumps({'version': 1, 'events': events})}))
 
 
 def report(what, count, files, events):

@@ -20,9 +20,11 @@ use Rattle.sv_listing.specs.Listing.{listing}
 use Rattle.sv_load.specs.Loads.{Loads, Reads, nothing as no_files}
 use Rattle.sv_load.specs.declared.refusals.LoadError.{LoadError}
 use Rattle.sv_load.specs.declared.refusals.LoadError.TheVariants as load
+use Rattle.sv_play.specs.declared.flags.Flags.{Flags}
 use Rattle.sv_resolve.specs.declared.refusals.CheckRefusal.{CheckRefusal}
-use Rattle.sv_run.specs.Answer.{Answer, usage, missing, events, turns, accepted, listed, load_answer, mistake_answer, IsMistaken, IsUnfit, not_loaded, mistaken, Accepts, IsChecked, unfit, clean, IsPrinted, unfit_too, compiled, Compiles, told_answer, AreEvents, no_file, long_file, whole_file, IsPlayed, unfit_run, no_events, plays, IsAnswer, no_form, runs, checks, prints}
-use Rattle.sv_run.specs.Words.{IsRun, IsCheck, IsPrint, IsNoRunOf, IsNoRun, IsNoForm}
+use Rattle.sv_run.specs.Answer.{Answer, usage, missing, events, turns, accepted, listed, load_answer, mistake_answer, IsMistaken, IsUnfit, not_loaded, mistaken, Accepts, IsChecked, unfit, clean, IsPrinted, unfit_too, compiled, Compiles, told_answer, AreEvents, no_file, long_file, whole_file, IsPlayed, unfit_run, no_events, plays, IsSummed, unfit_gen, IsAnswer, no_form, runs, checks, prints, gens}
+use Rattle.sv_run.specs.Generated.{generated, root_name}
+use Rattle.sv_run.specs.Words.{IsRun, IsCheck, IsPrint, IsGen, IsNoForm}
 use Rattle.sv_run.specs.declared.kinds.EventsFault.TheVariants as faults
 
 -- what holds of every value holds of the one that is told
@@ -100,23 +102,35 @@ events-long o file got is = some_weaker o (λ files found.
 
 -- ---- `run ROOT EVENTS`
 
-pub calls-unfit_run : (o : Option Files) (root file : List ℕ) (logs : Bool) (answer : Answer) → IfSome o (λ files. IsUnfit files root answer) → IfSome o (λ files. IsPlayed files root file logs answer)
-calls-unfit_run o root file logs answer = some_weaker o (λ files is. unfit_run answer is)
+pub calls-unfit_run : (o : Option Files) (root file : List ℕ) (flags : Flags) (answer : Answer) → IfSome o (λ files. IsUnfit files root answer) → IfSome o (λ files. IsPlayed files root file flags answer)
+calls-unfit_run o root file flags answer = some_weaker o (λ files is. unfit_run answer is)
 
-pub calls-no_events : (o : Option Files) (file : List ℕ) (bundle : Bundle) (logs : Bool) (outcome : Result (List Event) Answer) (answer : Answer) → outcome ≡ Err answer
-    → IfSome o (λ files. AreEvents files file outcome) → IfSome o (λ files. (root : List ℕ) → Accepts files root bundle → IsPlayed files root file logs answer)
-calls-no_events o file bundle logs outcome answer same = some_weaker o (λ files told root accepts. no_events bundle answer accepts (subst (AreEvents files file) same told))
+pub calls-no_events : (o : Option Files) (file : List ℕ) (bundle : Bundle) (flags : Flags) (outcome : Result (List Event) Answer) (answer : Answer) → outcome ≡ Err answer
+    → IfSome o (λ files. AreEvents files file outcome) → IfSome o (λ files. (root : List ℕ) → Accepts files root bundle → IsPlayed files root file flags answer)
+calls-no_events o file bundle flags outcome answer same = some_weaker o (λ files told root accepts. no_events bundle answer accepts (subst (AreEvents files file) same told))
 
-pub calls-plays : (o : Option Files) (file : List ℕ) (bundle : Bundle) (logs : Bool) (outcome : Result (List Event) Answer) (made : Program) (list : List Event) → outcome ≡ Ok list → Compiles bundle made
-    → IfSome o (λ files. AreEvents files file outcome) → IfSome o (λ files. (root : List ℕ) → Accepts files root bundle → IsPlayed files root file logs (turns made logs list))
-calls-plays o file bundle logs outcome made list same compiles = some_weaker o (λ files told root accepts. plays bundle made list accepts compiles (subst (AreEvents files file) same told))
+pub calls-plays : (o : Option Files) (file : List ℕ) (bundle : Bundle) (flags : Flags) (outcome : Result (List Event) Answer) (made : Program) (list : List Event) → outcome ≡ Ok list → Compiles bundle made
+    → IfSome o (λ files. AreEvents files file outcome) → IfSome o (λ files. (root : List ℕ) → Accepts files root bundle → IsPlayed files root file flags (turns made flags list))
+calls-plays o file bundle flags outcome made list same compiles = some_weaker o (λ files told root accepts. plays bundle made list accepts compiles (subst (AreEvents files file) same told))
 
-pub calls-played : (o after : Option Files) (root file : List ℕ) (bundle other : Bundle) (logs : Bool) (answer : Answer) → after ≡ o → IsClean bundle → other ≡ bundle
-    → IfSome o (λ files. Loads files root (Ok bundle)) → IfSome after (λ files. (root : List ℕ) → Accepts files root other → IsPlayed files root file logs answer)
-    → IfSome o (λ files. IsPlayed files root file logs answer)
-calls-played o after root file bundle other logs answer still is same loads given =
+pub calls-played : (o after : Option Files) (root file : List ℕ) (bundle other : Bundle) (flags : Flags) (answer : Answer) → after ≡ o → IsClean bundle → other ≡ bundle
+    → IfSome o (λ files. Loads files root (Ok bundle)) → IfSome after (λ files. (root : List ℕ) → Accepts files root other → IsPlayed files root file flags answer)
+    → IfSome o (λ files. IsPlayed files root file flags answer)
+calls-played o after root file bundle other flags answer still is same loads given =
     some_both o (λ files loaded given. given root (subst (Accepts files root) (sym same) (record { loaded = loaded; is_clean = is }))) loads
-    (subst (λ z. IfSome z (λ files. (root : List ℕ) → Accepts files root other → IsPlayed files root file logs answer)) still given)
+    (subst (λ z. IfSome z (λ files. (root : List ℕ) → Accepts files root other → IsPlayed files root file flags answer)) still given)
+
+-- ---- `gen N`
+
+pub summed-not_loaded : (count : ℕ) (error : LoadError) (answer : Answer) → load_answer error ≡ Some answer → Loads (generated count) root_name (Err error) → IsSummed count answer
+summed-not_loaded count error answer is loads = unfit_gen answer (not_loaded error answer (reads_of (generated count) root_name error answer is loads) is)
+
+pub summed-mistaken : (count : ℕ) (bundle : Bundle) (answer : Answer) → Loads (generated count) root_name (Ok bundle) → IsMistaken bundle answer → IsSummed count answer
+summed-mistaken count bundle answer loads is = unfit_gen answer (mistaken bundle answer loads is)
+
+pub summed-clean : (count : ℕ) (bundle other : Bundle) (answer : Answer) → IsClean bundle → other ≡ bundle → Loads (generated count) root_name (Ok bundle)
+    → (Accepts (generated count) root_name other → IsSummed count answer) → IsSummed count answer
+summed-clean count bundle other answer is same loads given = given (subst (Accepts (generated count) root_name) (sym same) (record { loaded = loads; is_clean = is }))
 
 -- ---- mistakes
 
@@ -141,14 +155,9 @@ mistaken_is bundle m answer is told =
 pub calls-usage : (o : Option Files) (words : List (List ℕ)) → IsNoForm words → IfSome o (λ files. IsAnswer words files usage)
 calls-usage o words none = told o (λ files is. no_form none)
 
--- words that are a run neither without logs nor with them are none
-pub no_run : (words : List (List ℕ)) → IsNoRunOf false words → IsNoRunOf true words → IsNoRun words
-no_run words plain logged root file false is = plain root file is
-no_run words plain logged root file true is = logged root file is
-
-pub calls-run : (o : Option Files) (words : List (List ℕ)) (root file : List ℕ) (logs : Bool) (answer : Answer) → IsRun words root file logs
-    → IfSome o (λ files. IsPlayed files root file logs answer) → IfSome o (λ files. IsAnswer words files answer)
-calls-run o words root file logs answer run = some_weaker o (λ files played. runs root file logs answer run played)
+pub calls-run : (o : Option Files) (words : List (List ℕ)) (root file : List ℕ) (flags : Flags) (answer : Answer) → IsRun words root file flags
+    → IfSome o (λ files. IsPlayed files root file flags answer) → IfSome o (λ files. IsAnswer words files answer)
+calls-run o words root file flags answer run = some_weaker o (λ files played. runs root file flags answer run played)
 
 pub calls-check : (o : Option Files) (words : List (List ℕ)) (root : List ℕ) (answer : Answer) → IsCheck words root
     → IfSome o (λ files. IsChecked files root answer) → IfSome o (λ files. IsAnswer words files answer)
@@ -157,3 +166,6 @@ calls-check o words root answer check = some_weaker o (λ files checked. checks 
 pub calls-print : (o : Option Files) (words : List (List ℕ)) (root : List ℕ) (answer : Answer) → IsPrint words root
     → IfSome o (λ files. IsPrinted files root answer) → IfSome o (λ files. IsAnswer words files answer)
 calls-print o words root answer print = some_weaker o (λ files printed. prints root answer print printed)
+
+pub calls-gen : (o : Option Files) (words : List (List ℕ)) (count : ℕ) (answer : Answer) → IsGen words count → IsSummed count answer → IfSome o (λ files. IsAnswer words files answer)
+calls-gen o words count answer gen is = told o (λ files there. gens count answer gen is)

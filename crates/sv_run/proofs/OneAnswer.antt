@@ -1,6 +1,7 @@
 -- No words and files call for two answers.
-use Rattle.std.proofs.Common.{◌≡◌, ◌<◌, ◌≤◌, ℕ, Bool, true, false, List, [], ◌∷◌, drop, get_or, length, Option, refl, ap, sym, subst, ◌∙◌, arith}
-use Rattle.std.specs.Prelude.{Some, None, Result, Ok, Err, codes, slice_get}
+use Rattle.std.proofs.Common.{◌≡◌, ◌<◌, ◌≤◌, ℕ, List, [], ◌∷◌, drop, get_or, length, Option, refl, ap, sym, subst, ◌∙◌, arith}
+use Rattle.std.specs.Prelude.{Some, None, Result, Ok, Err, slice_get}
+use Rattle.std.proofs.lemmas.Fmt.{decimal_injective}
 use Rattle.sv_ast.specs.declared.files.Bundle.{Bundle}
 use Rattle.sv_check.specs.Checked.{IsClean, AreChecked, IsOneMistake, IsMistakeOrClean}
 use Rattle.sv_code.specs.declared.program.Program.{Program}
@@ -13,8 +14,10 @@ use Rattle.sv_listing.specs.Listing.{listing}
 use Rattle.sv_load.specs.Laws.{IsOneOutcome}
 use Rattle.sv_load.specs.Loads.{Reads, nothing as no_files}
 use Rattle.sv_load.specs.declared.refusals.LoadError.{LoadError}
-use Rattle.sv_run.specs.Answer.{Answer, turns, listed, load_answer, mistake_answer, IsMistaken, IsUnfit, not_loaded, mistaken, Accepts, IsChecked, unfit, clean, IsPrinted, unfit_too, compiled, Compiles, told_answer, AreEvents, no_file, long_file, whole_file, IsPlayed, unfit_run, no_events, plays, IsAnswer, no_form, runs, checks, prints}
-use Rattle.sv_run.specs.Words.{flags, IsRun, IsOfRoot, IsCheck, IsPrint}
+use Rattle.sv_play.specs.declared.flags.Flags.{Flags}
+use Rattle.sv_run.specs.Answer.{Answer, turns, sums, listed, load_answer, mistake_answer, IsMistaken, IsUnfit, not_loaded, mistaken, Accepts, IsChecked, unfit, clean, IsPrinted, unfit_too, compiled, Compiles, told_answer, AreEvents, no_file, long_file, whole_file, IsPlayed, unfit_run, no_events, plays, IsSummed, unfit_gen, summed, IsAnswer, no_form, runs, checks, prints, gens}
+use Rattle.sv_run.specs.Generated.{generated, root_name, clicks}
+use Rattle.sv_run.specs.Words.{flags_of, IsRun, IsOfRoot, IsGen}
 
 none-some : {T P : Type 0} (o : Option T) (x : T) → o ≡ None → o ≡ Some x → P
 none-some o x none some = cc
@@ -122,74 +125,93 @@ compiles_same laws bundle a b is one other =
     one.is ∙ laws.programs bundle one.told other.told one.are_checked other.are_checked one.modules
     ∙ ap (program bundle other.told) (laws.orders bundle one.modules other.modules is one.are_modules other.are_modules) ∙ sym other.is
 
-IsPlayed-unique : (laws : Laws) (files : Files) (root file : List ℕ) (logs : Bool) (a b : Answer) → IsPlayed files root file logs a → IsPlayed files root file logs b → a ≡ b
-IsPlayed-unique laws files root file logs _ _ (unfit_run a is) (unfit_run b is') = IsUnfit-unique laws files root a b is is'
-IsPlayed-unique laws files root file logs _ _ (unfit_run a is) (no_events bundle b c e) = unfit-or-clean laws files root a bundle is c
-IsPlayed-unique laws files root file logs _ _ (unfit_run a is) (plays bundle p list c m e) = unfit-or-clean laws files root a bundle is c
-IsPlayed-unique laws files root file logs _ _ (no_events bundle a c e) (unfit_run b is) = unfit-or-clean laws files root b bundle is c
-IsPlayed-unique laws files root file logs _ _ (no_events bundle a c e) (no_events bundle' b c' e') = err-same a b (Err a) refl (AreEvents-unique files file (Err a) (Err b) e e')
-IsPlayed-unique laws files root file logs _ _ (no_events bundle a c e) (plays bundle' p list c' m e') = ok-err list a (Err a) (AreEvents-unique files file (Err a) (Ok list) e e') refl
-IsPlayed-unique laws files root file logs _ _ (plays bundle p list c m e) (unfit_run b is) = unfit-or-clean laws files root b bundle is c
-IsPlayed-unique laws files root file logs _ _ (plays bundle p list c m e) (no_events bundle' b c' e') = ok-err list b (Ok list) refl (AreEvents-unique files file (Ok list) (Err b) e e')
-IsPlayed-unique laws files root file logs _ _ (plays bundle p list c m e) (plays bundle' p' list' c' m' e') =
+IsPlayed-unique : (laws : Laws) (files : Files) (root file : List ℕ) (flags : Flags) (a b : Answer) → IsPlayed files root file flags a → IsPlayed files root file flags b → a ≡ b
+IsPlayed-unique laws files root file flags _ _ (unfit_run a is) (unfit_run b is') = IsUnfit-unique laws files root a b is is'
+IsPlayed-unique laws files root file flags _ _ (unfit_run a is) (no_events bundle b c e) = unfit-or-clean laws files root a bundle is c
+IsPlayed-unique laws files root file flags _ _ (unfit_run a is) (plays bundle p list c m e) = unfit-or-clean laws files root a bundle is c
+IsPlayed-unique laws files root file flags _ _ (no_events bundle a c e) (unfit_run b is) = unfit-or-clean laws files root b bundle is c
+IsPlayed-unique laws files root file flags _ _ (no_events bundle a c e) (no_events bundle' b c' e') = err-same a b (Err a) refl (AreEvents-unique files file (Err a) (Err b) e e')
+IsPlayed-unique laws files root file flags _ _ (no_events bundle a c e) (plays bundle' p list c' m e') = ok-err list a (Err a) (AreEvents-unique files file (Err a) (Ok list) e e') refl
+IsPlayed-unique laws files root file flags _ _ (plays bundle p list c m e) (unfit_run b is) = unfit-or-clean laws files root b bundle is c
+IsPlayed-unique laws files root file flags _ _ (plays bundle p list c m e) (no_events bundle' b c' e') = ok-err list b (Ok list) refl (AreEvents-unique files file (Ok list) (Err b) e e')
+IsPlayed-unique laws files root file flags _ _ (plays bundle p list c m e) (plays bundle' p' list' c' m' e') =
     let same : bundle' ≡ bundle = one_bundle laws files root bundle' bundle c'.loaded c.loaded in
     let programs : p ≡ p' = compiles_same laws bundle p p' c.is_clean m (subst (λ z. Compiles z p') same m') in
     let lists : list ≡ list' = ok-same list list' (Ok list) refl (AreEvents-unique files file (Ok list) (Ok list') e e') in
-    ap (λ z. turns z logs list) programs ∙ ap (turns p' logs) lists
+    ap (λ z. turns z flags list) programs ∙ ap (turns p' flags) lists
+
+-- ---- `gen N`
+
+IsSummed-unique : (laws : Laws) (count : ℕ) (a b : Answer) → IsSummed count a → IsSummed count b → a ≡ b
+IsSummed-unique laws count _ _ (unfit_gen a is) (unfit_gen b is') = IsUnfit-unique laws (generated count) root_name a b is is'
+IsSummed-unique laws count _ _ (unfit_gen a is) (summed bundle p c m) = unfit-or-clean laws (generated count) root_name a bundle is c
+IsSummed-unique laws count _ _ (summed bundle p c m) (unfit_gen b is) = unfit-or-clean laws (generated count) root_name b bundle is c
+IsSummed-unique laws count _ _ (summed bundle p c m) (summed bundle' p' c' m') =
+    let same : bundle' ≡ bundle = one_bundle laws (generated count) root_name bundle' bundle c'.loaded c.loaded in
+    ap (λ z. sums z (clicks count)) (compiles_same laws bundle p p' c.is_clean m (subst (λ z. Compiles z p') same m'))
 
 -- ---- all words
 
-root-same : (words : List (List ℕ)) (r f : List ℕ) (l : Bool) (r' f' : List ℕ) (l' : Bool) → IsRun words r f l → IsRun words r' f' l' → r ≡ r'
+root-same : (words : List (List ℕ)) (r f : List ℕ) (l : Flags) (r' f' : List ℕ) (l' : Flags) → IsRun words r f l → IsRun words r' f' l' → r ≡ r'
 root-same words r f l r' f' l' one other = ap (λ w. get_or w 1 []) (sym one.form ∙ other.form)
 
-file-same : (words : List (List ℕ)) (r f : List ℕ) (l : Bool) (r' f' : List ℕ) (l' : Bool) → IsRun words r f l → IsRun words r' f' l' → f ≡ f'
+file-same : (words : List (List ℕ)) (r f : List ℕ) (l : Flags) (r' f' : List ℕ) (l' : Flags) → IsRun words r f l → IsRun words r' f' l' → f ≡ f'
 file-same words r f l r' f' l' one other = ap (λ w. get_or w 2 []) (sym one.form ∙ other.form)
 
-flags-same : (l l' : Bool) → flags l ≡ flags l' → l ≡ l'
-flags-same true true e = refl
-flags-same true false e = let no : codes "--log" ∷ [] ≡ [] = e in cc
-flags-same false true e = let no : [] ≡ codes "--log" ∷ [] = e in cc
-flags-same false false e = refl
-
-logs-same : (words : List (List ℕ)) (r f : List ℕ) (l : Bool) (r' f' : List ℕ) (l' : Bool) → IsRun words r f l → IsRun words r' f' l' → l ≡ l'
-logs-same words r f l r' f' l' one other = flags-same l l' (ap (λ w. drop 3 w) (sym one.form ∙ other.form))
+flags-same : (words : List (List ℕ)) (r f : List ℕ) (l : Flags) (r' f' : List ℕ) (l' : Flags) → IsRun words r f l → IsRun words r' f' l' → l ≡ l'
+flags-same words r f l r' f' l' one other =
+    let marks : one.marks ≡ other.marks = ap (λ w. drop 3 w) (sym one.form ∙ other.form) in
+    some-same (flags_of one.marks) l l' one.asked (ap flags_of marks ∙ other.asked)
 
 root-of-same : (command : List ℕ) (words : List (List ℕ)) (r r' : List ℕ) → IsOfRoot command words r → IsOfRoot command words r' → r ≡ r'
 root-of-same command words r r' one other =
     let a = one.form in
     let b = other.form in cc
 
-run-or-of-root : {P : Type 0} (command : List ℕ) (words : List (List ℕ)) (r f : List ℕ) (l : Bool) (r' : List ℕ) → IsRun words r f l → IsOfRoot command words r' → P
-run-or-of-root command words r f l r' one other =
-    let a = one.form in
-    let b = other.form in cc
+count-same : (words : List (List ℕ)) (m n : ℕ) → IsGen words m → IsGen words n → m ≡ n
+count-same words m n one other =
+    decimal_injective m n (omega (arith, one.most)) (omega (arith, other.most)) (ap (λ w. get_or w 1 []) (sym one.form ∙ other.form))
 
-check-or-print : {P : Type 0} (words : List (List ℕ)) (r r' : List ℕ) → IsCheck words r → IsPrint words r' → P
-check-or-print words r r' one other =
-    let first : 99 ≡ 112 = ap (λ w. get_or (get_or w 0 []) 0 0) (sym one.form ∙ other.form) in
-    absurd (omega (arith, first))
+-- words of a run are more than two
+run-or-two : {P : Type 0} (command word : List ℕ) (words : List (List ℕ)) (r f : List ℕ) (l : Flags) → IsRun words r f l → words ≡ command ∷ word ∷ [] → P
+run-or-two command word words r f l one other =
+    let a = one.form in cc
+
+-- of two commands with one name the first bytes tell which it is
+two-ways : {P : Type 0} (a b : List ℕ) (x y : List ℕ) (words : List (List ℕ)) → (get_or a 0 0 ≡ get_or b 0 0 → P) → words ≡ a ∷ x ∷ [] → words ≡ b ∷ y ∷ [] → P
+two-ways a b x y words apart one other = apart (ap (λ w. get_or (get_or w 0 []) 0 0) (sym one ∙ other))
 
 pub IsAnswer-unique : (laws : Laws) (words : List (List ℕ)) (files : Files) (a b : Answer) → IsAnswer words files a → IsAnswer words files b → a ≡ b
 IsAnswer-unique laws words files _ _ (no_form n) (no_form n') = refl
-IsAnswer-unique laws words files _ _ (no_form n) (runs root file logs b run p) = absurd (n.no_run root file logs run)
+IsAnswer-unique laws words files _ _ (no_form n) (runs root file flags b run p) = absurd (n.no_run root file flags run)
 IsAnswer-unique laws words files _ _ (no_form n) (checks root b check p) = absurd (n.no_check root check)
 IsAnswer-unique laws words files _ _ (no_form n) (prints root b print p) = absurd (n.no_print root print)
-IsAnswer-unique laws words files _ _ (runs root file logs a run p) (no_form n) = absurd (n.no_run root file logs run)
-IsAnswer-unique laws words files _ _ (runs root file logs a run p) (runs root' file' logs' b run' q) =
-    let r = root-same words root' file' logs' root file logs run' run in
-    let f = file-same words root' file' logs' root file logs run' run in
-    let l = logs-same words root' file' logs' root file logs run' run in
-    let q' = subst (λ x. IsPlayed files x file logs b) r (subst (λ x. IsPlayed files root' x logs b) f (subst (λ x. IsPlayed files root' file' x b) l q)) in
-    IsPlayed-unique laws files root file logs a b p q'
-IsAnswer-unique laws words files _ _ (runs root file logs a run p) (checks root' b check q) = run-or-of-root _ words root file logs root' run check
-IsAnswer-unique laws words files _ _ (runs root file logs a run p) (prints root' b print q) = run-or-of-root _ words root file logs root' run print
+IsAnswer-unique laws words files _ _ (no_form n) (gens count b gen p) = absurd (n.no_gen count gen)
+IsAnswer-unique laws words files _ _ (runs root file flags a run p) (no_form n) = absurd (n.no_run root file flags run)
+IsAnswer-unique laws words files _ _ (runs root file flags a run p) (runs root' file' flags' b run' q) =
+    let r = root-same words root' file' flags' root file flags run' run in
+    let f = file-same words root' file' flags' root file flags run' run in
+    let l = flags-same words root' file' flags' root file flags run' run in
+    let q' = subst (λ x. IsPlayed files x file flags b) r (subst (λ x. IsPlayed files root' x flags b) f (subst (λ x. IsPlayed files root' file' x b) l q)) in
+    IsPlayed-unique laws files root file flags a b p q'
+IsAnswer-unique laws words files _ _ (runs root file flags a run p) (checks root' b check q) = run-or-two _ _ words root file flags run check.form
+IsAnswer-unique laws words files _ _ (runs root file flags a run p) (prints root' b print q) = run-or-two _ _ words root file flags run print.form
+IsAnswer-unique laws words files _ _ (runs root file flags a run p) (gens count b gen q) = run-or-two _ _ words root file flags run gen.form
 IsAnswer-unique laws words files _ _ (checks root a check p) (no_form n) = absurd (n.no_check root check)
-IsAnswer-unique laws words files _ _ (checks root a check p) (runs root' file logs b run q) = run-or-of-root _ words root' file logs root run check
+IsAnswer-unique laws words files _ _ (checks root a check p) (runs root' file flags b run q) = run-or-two _ _ words root' file flags run check.form
 IsAnswer-unique laws words files _ _ (checks root a check p) (checks root' b check' q) =
     IsChecked-unique laws files root a b p (subst (λ x. IsChecked files x b) (root-of-same _ words root' root check' check) q)
-IsAnswer-unique laws words files _ _ (checks root a check p) (prints root' b print q) = check-or-print words root root' check print
+IsAnswer-unique laws words files _ _ (checks root a check p) (prints root' b print q) = two-ways _ _ _ _ words (λ e. absurd (omega (arith, e))) check.form print.form
+IsAnswer-unique laws words files _ _ (checks root a check p) (gens count b gen q) = two-ways _ _ _ _ words (λ e. absurd (omega (arith, e))) check.form gen.form
 IsAnswer-unique laws words files _ _ (prints root a print p) (no_form n) = absurd (n.no_print root print)
-IsAnswer-unique laws words files _ _ (prints root a print p) (runs root' file logs b run q) = run-or-of-root _ words root' file logs root run print
-IsAnswer-unique laws words files _ _ (prints root a print p) (checks root' b check q) = check-or-print words root' root check print
+IsAnswer-unique laws words files _ _ (prints root a print p) (runs root' file flags b run q) = run-or-two _ _ words root' file flags run print.form
+IsAnswer-unique laws words files _ _ (prints root a print p) (checks root' b check q) = two-ways _ _ _ _ words (λ e. absurd (omega (arith, e))) print.form check.form
 IsAnswer-unique laws words files _ _ (prints root a print p) (prints root' b print' q) =
     IsPrinted-unique laws files root a b p (subst (λ x. IsPrinted files x b) (root-of-same _ words root' root print' print) q)
+IsAnswer-unique laws words files _ _ (prints root a print p) (gens count b gen q) = two-ways _ _ _ _ words (λ e. absurd (omega (arith, e))) print.form gen.form
+IsAnswer-unique laws words files _ _ (gens count a gen p) (no_form n) = absurd (n.no_gen count gen)
+IsAnswer-unique laws words files _ _ (gens count a gen p) (runs root' file flags b run q) = run-or-two _ _ words root' file flags run gen.form
+IsAnswer-unique laws words files _ _ (gens count a gen p) (checks root' b check q) = two-ways _ _ _ _ words (λ e. absurd (omega (arith, e))) gen.form check.form
+IsAnswer-unique laws words files _ _ (gens count a gen p) (prints root' b print q) = two-ways _ _ _ _ words (λ e. absurd (omega (arith, e))) gen.form print.form
+IsAnswer-unique laws words files _ _ (gens count a gen p) (gens count' b gen' q) =
+    IsSummed-unique laws count a b p (subst (λ n. IsSummed n b) (count-same words count' count gen' gen) q)

@@ -3,8 +3,9 @@ use Rattle.std.proofs.Common.{◌≡◌, ℕ, Bool, true, false, List, Option, r
 use Rattle.std.specs.Prelude.{if◌then◌else◌}
 use Rattle.sv_io.specs.Files.{Files}
 use Rattle.sv_io.specs.Sink.{with_bytes, AppendsFront}
-use Rattle.sv_play.specs.Run.{run}
-use Rattle.sv_run.specs.Answer.{Answer, usage, missing, source, source_at, events, turns, accepted, listed, IsAnswer, status_of, text_of}
+use Rattle.sv_play.specs.Run.{printed}
+use Rattle.sv_play.specs.Summary.{summary}
+use Rattle.sv_run.specs.Answer.{Answer, usage, missing, source, source_at, events, turns, sums, accepted, listed, IsAnswer, status_of, text_of}
 use Rattle.sv_run.specs.Run.{Answers, BreaksOff, RunAnswers, RunCompletes, IsOneAnswer}
 use Rattle.sv_run.specs.declared.status.Status.{Status}
 use Rattle.sv_run.specs.declared.status.Status.TheVariants as statuses
@@ -26,7 +27,8 @@ answered words files old new (missing name) is written = answer_given words file
 answered words files old new (source file word) is written = answer_given words files old new (source file word) is written
 answered words files old new (source_at file line column word) is written = answer_given words files old new (source_at file line column word) is written
 answered words files old new (events fault) is written = answer_given words files old new (events fault) is written
-answered words files old new (turns program logs list) is written = turns_answered words files old new (run program logs list).refused (answer_given words files old new (turns program logs list) is written)
+answered words files old new (turns program flags list) is written = turns_answered words files old new (printed program flags list).refused (answer_given words files old new (turns program flags list) is written)
+answered words files old new (sums program list) is written = turns_answered words files old new (summary program list).refused (answer_given words files old new (sums program list) is written)
 answered words files old new accepted is written = answer_given words files old new accepted is written
 answered words files old new (listed text) is written = answer_given words files old new (listed text) is written
 

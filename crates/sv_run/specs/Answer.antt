@@ -1,5 +1,5 @@
 -- What a run is to answer, by its words and the files that the shelf tells.
-use Rattle.std.specs.Prelude.{◌≡◌, ℕ, ◌<◌, ◌≤◌, Bool, List, ◌∷◌, [], ◌++◌, length, Option, Some, None, option_map, Result, Ok, Err, codes, decimal, slice_get, if◌then◌else◌}
+use Rattle.std.specs.Prelude.{◌≡◌, ℕ, ◌<◌, ◌≤◌, List, ◌∷◌, [], ◌++◌, length, Option, Some, None, option_map, Result, Ok, Err, codes, decimal, slice_get, if◌then◌else◌}
 use Rattle.sv_ast.specs.declared.files.Bundle.{Bundle}
 use Rattle.sv_ast.specs.declared.files.SourceFile.{SourceFile}
 use Rattle.sv_ast.specs.declared.refusals.Kind.TheVariants as kind
@@ -17,10 +17,13 @@ use Rattle.sv_listing.specs.Listing.{listing}
 use Rattle.sv_load.specs.Loads.{Reads, nothing as no_files}
 use Rattle.sv_load.specs.declared.refusals.LoadError.{LoadError}
 use Rattle.sv_load.specs.declared.refusals.LoadError.TheVariants as load
-use Rattle.sv_play.specs.Run.{run}
+use Rattle.sv_play.specs.Run.{Printed, printed}
+use Rattle.sv_play.specs.Summary.{summary}
+use Rattle.sv_play.specs.declared.flags.Flags.{Flags}
 use Rattle.sv_resolve.specs.declared.refusals.CheckRefusal.{CheckRefusal}
+use Rattle.sv_run.specs.Generated.{generated, root_name, clicks}
 use Rattle.sv_run.specs.Kinds.{parse_word, check_word, fault_in, events_word}
-use Rattle.sv_run.specs.Words.{IsRun, IsCheck, IsPrint, IsNoForm}
+use Rattle.sv_run.specs.Words.{IsRun, IsCheck, IsPrint, IsGen, IsNoForm}
 use Rattle.sv_run.specs.declared.kinds.EventsFault.{EventsFault}
 use Rattle.sv_run.specs.declared.kinds.EventsFault.TheVariants as faults
 use Rattle.sv_run.specs.declared.status.Status.{Status}
@@ -33,11 +36,12 @@ pub data Answer : Type 0 where
   source : (file word : List ℕ) → Answer
   source_at : (file : List ℕ) (line column : ℕ) (word : List ℕ) → Answer
   events : EventsFault → Answer
-  turns : Program → (logs : Bool) → List Event → Answer
+  turns : Program → Flags → List Event → Answer
+  sums : Program → List Event → Answer
   accepted : Answer
   listed : (text : List ℕ) → Answer
 
--- what is answered where a program isn't loaded; a failed read and want of memory have no answer
+-- what is answered where a program isn't loaded; a failed read and `NoMemory` have no answer
 abbrev pub load_answer : LoadError → Option Answer
 load_answer (load.Missing name) = Some (missing name)
 load_answer (load.TooLong name) = Some (source name (codes "TooLong"))
@@ -89,7 +93,7 @@ pub record Compiles (bundle : Bundle) (compiled : Program) : Type 0 where
   pub are_modules : AreModules bundle.files modules
   pub is : compiled ≡ program bundle told modules
 
--- what the bytes of an events file tell: its events, or what is answered where it has none; want of memory has no answer
+-- what the bytes of an events file tell: its events, or what is answered where it has none; `NoMemory` has no answer
 abbrev pub told_answer : Told → Option (Result (List Event) Answer)
 told_answer (Ok list) = Some (Ok list)
 told_answer (Err error) = option_map (λ fault. Err (events fault)) (fault_in error)
@@ -102,18 +106,28 @@ pub data AreEvents (files : Files) (name : List ℕ) : Result (List Event) Answe
       → AreEvents files name outcome
 
 -- What `run ROOT EVENTS` answers. The program is looked at first, and the events file only where it has no mistake.
-pub data IsPlayed (files : Files) (root file : List ℕ) (logs : Bool) : Answer → Type 0 where
-  unfit_run : (answer : Answer) → IsUnfit files root answer → IsPlayed files root file logs answer
-  no_events : (bundle : Bundle) (answer : Answer) → Accepts files root bundle → AreEvents files file (Err answer) → IsPlayed files root file logs answer
+pub data IsPlayed (files : Files) (root file : List ℕ) (flags : Flags) : Answer → Type 0 where
+  unfit_run : (answer : Answer) → IsUnfit files root answer → IsPlayed files root file flags answer
+  no_events : (bundle : Bundle) (answer : Answer) → Accepts files root bundle → AreEvents files file (Err answer) → IsPlayed files root file flags answer
   plays : (bundle : Bundle) (compiled : Program) (list : List Event) → Accepts files root bundle → Compiles bundle compiled → AreEvents files file (Ok list)
-      → IsPlayed files root file logs (turns compiled logs list)
+      → IsPlayed files root file flags (turns compiled flags list)
+
+-- What `gen N` answers: the sums of a run of the generated program, which is looked at as any other.
+pub data IsSummed (count : ℕ) : Answer → Type 0 where
+  unfit_gen : (answer : Answer) → IsUnfit (generated count) root_name answer → IsSummed count answer
+  summed : (bundle : Bundle) (compiled : Program) → Accepts (generated count) root_name bundle → Compiles bundle compiled → IsSummed count (sums compiled (clicks count))
 
 -- the cause of each answer
 pub data IsAnswer (words : List (List ℕ)) (files : Files) : Answer → Type 0 where
   no_form : IsNoForm words → IsAnswer words files usage
-  runs : (root file : List ℕ) (logs : Bool) (answer : Answer) → IsRun words root file logs → IsPlayed files root file logs answer → IsAnswer words files answer
+  runs : (root file : List ℕ) (flags : Flags) (answer : Answer) → IsRun words root file flags → IsPlayed files root file flags answer → IsAnswer words files answer
   checks : (root : List ℕ) (answer : Answer) → IsCheck words root → IsChecked files root answer → IsAnswer words files answer
   prints : (root : List ℕ) (answer : Answer) → IsPrint words root → IsPrinted files root answer → IsAnswer words files answer
+  gens : (count : ℕ) (answer : Answer) → IsGen words count → IsSummed count answer → IsAnswer words files answer
+
+-- the status of a run by what is printed of it
+abbrev pub turned : Printed → Status
+turned p = if p.refused then statuses.Turn else statuses.Ok
 
 -- the status of an answer
 abbrev pub status_of : Answer → Status
@@ -122,7 +136,8 @@ status_of (missing name) = statuses.Missing
 status_of (source file word) = statuses.Source
 status_of (source_at file line column word) = statuses.Source
 status_of (events fault) = statuses.Events
-status_of (turns program logs list) = if (run program logs list).refused then statuses.Turn else statuses.Ok
+status_of (turns program flags list) = turned (printed program flags list)
+status_of (sums program list) = turned (summary program list)
 status_of accepted = statuses.Ok
 status_of (listed text) = statuses.Ok
 
@@ -138,6 +153,7 @@ text_of (source file word) = codes "source: " ++ (file ++ (codes ": " ++ (word +
 text_of (source_at file line column word) =
     codes "source: " ++ (file ++ (codes ":" ++ (decimal line ++ (codes ":" ++ (decimal column ++ (codes ": " ++ (word ++ 10 ∷ [])))))))
 text_of (events fault) = codes "events: " ++ (events_word fault ++ 10 ∷ [])
-text_of (turns program logs list) = (run program logs list).text
+text_of (turns program flags list) = (printed program flags list).text
+text_of (sums program list) = (summary program list).text
 text_of accepted = codes "accepted\n"
 text_of (listed text) = text

@@ -2,7 +2,7 @@
 use Rattle.std.specs.Prelude.{List, Result, Ok, Err, string_bytes, ⊤}
 use Rattle.sv_events.specs.declared.event.Event.{Event}
 use Rattle.sv_play.specs.Refused.{LinesAscend}
-use Rattle.sv_run.specs.Answer.{Answer, usage, missing, source, source_at, events, turns, accepted, listed}
+use Rattle.sv_run.specs.Answer.{Answer, usage, missing, source, source_at, events, turns, sums, accepted, listed}
 use Rattle.sv_run.specs.declared.events.Loaded.{Loaded}
 use Rattle.sv_run.specs.declared.events.Loaded.TheVariants as loaded
 use Rattle.sv_run.specs.declared.job.Job.{Job}
@@ -19,7 +19,8 @@ refusal_of (refusals.Events fault) = events fault
 
 abbrev pub answer_of : Job → Answer
 answer_of (jobs.Refuse refusal) = refusal_of refusal
-answer_of (jobs.Play program list logs) = turns program logs list.items
+answer_of (jobs.Play program list flags) = turns program flags list.items
+answer_of (jobs.Sum program list) = sums program list.items
 answer_of jobs.Accept = accepted
 answer_of (jobs.List text) = listed text.items
 
@@ -33,4 +34,5 @@ abbrev pub IsPlayable : Job → Type 0
 IsPlayable (jobs.Refuse refusal) = ⊤
 IsPlayable jobs.Accept = ⊤
 IsPlayable (jobs.List text) = ⊤
-IsPlayable (jobs.Play program list logs) = LinesAscend program
+IsPlayable (jobs.Play program list flags) = LinesAscend program
+IsPlayable (jobs.Sum program list) = LinesAscend program

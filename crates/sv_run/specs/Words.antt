@@ -1,9 +1,12 @@
 -- The words of the command line.
-use Rattle.std.specs.Prelude.{◌≡◌, ℕ, ◌<◌, ◌||◌, ◌==◌, List, [], ◌∷◌, ◌++◌, length, Bool, true, false, codes}
+use Rattle.std.specs.Prelude.{◌≡◌, ℕ, ◌<◌, ◌≤◌, ◌||◌, ◌==◌, List, [], ◌∷◌, ◌++◌, length, Bool, true, false, Option, Some, None, option_and_then, codes, decimal, if◌then◌else◌}
 use Rattle.std.specs.List.{list_all}
 use Rattle.std.specs.Char.{is_ascii_alphanumeric}
+use Rattle.std.specs.Str.{bytes_eq}
+use Rattle.sv_play.specs.declared.flags.Flags.{Flags}
 use Rattle.sv_run.specs.declared.command.Command.{Command}
-use Rattle.sv_run.specs.declared.command.Command.TheVariants.{Run, Check, Print}
+use Rattle.sv_run.specs.declared.command.Command.TheVariants.{Run, Check, Print, Gen}
+use Rattle.sv_run.specs.declared.command.TheConstants.{GEN_LIMIT}
 
 -- a letter or digit of ASCII, `_` or `-`
 abbrev pub is_name_byte : ℕ → Bool
@@ -21,16 +24,45 @@ pub record IsEvents (word : List ℕ) : Type 0 where
   pub some : 0 < length word
   pub no_flag : (rest : List ℕ) → word ≡ 45 ∷ 45 ∷ rest → ⊥
 
--- the flags of a run, of which the only one asks for its logs
-abbrev pub flags : (logs : Bool) → List (List ℕ)
-flags true = codes "--log" ∷ []
-flags false = []
+-- the words for flags
+abbrev pub log_flag : List ℕ
+log_flag = codes "--log"
 
--- the words `run ROOT EVENTS`, with `--log` behind them where logs are asked for
-pub record IsRun (words : List (List ℕ)) (root events : List ℕ) (logs : Bool) : Type 0 where
-  pub form : words ≡ codes "run" ∷ root ∷ events ∷ flags logs
+abbrev pub serials_flag : List ℕ
+serials_flag = codes "--serials"
+
+abbrev pub tally_flag : List ℕ
+tally_flag = codes "--tally"
+
+abbrev pub no_flags : Flags
+no_flags = record { logs = false; serials = false; tally = false }
+
+-- a flag that hasn't been set is
+abbrev pub set_once : Bool → Flags → Option Flags
+set_once set flags = if set then None else Some flags
+
+-- flags with one more, which a word asks for
+abbrev pub with_flag : Flags → List ℕ → Option Flags
+with_flag flags word =
+    if bytes_eq word log_flag then set_once flags.logs (record flags { logs = true })
+    else if bytes_eq word serials_flag then set_once flags.serials (record flags { serials = true })
+    else if bytes_eq word tally_flag then set_once flags.tally (record flags { tally = true }) else None
+
+abbrev pub flags_from : Flags → List (List ℕ) → Option Flags
+flags_from flags [] = Some flags
+flags_from flags (word ∷ words) = option_and_then (λ f. flags_from f words) (with_flag flags word)
+
+-- the flags that words ask for, each once at most, in any order
+abbrev pub flags_of : List (List ℕ) → Option Flags
+flags_of words = flags_from no_flags words
+
+-- the words `run ROOT EVENTS`, with flags behind them
+pub record IsRun (words : List (List ℕ)) (root events : List ℕ) (flags : Flags) : Type 0 where
+  pub marks : List (List ℕ)
+  pub form : words ≡ codes "run" ∷ root ∷ events ∷ marks
   pub root_name : IsRoot root
   pub events_name : IsEvents events
+  pub asked : flags_of marks ≡ Some flags
 
 -- a command with the name of a root file
 pub record IsOfRoot (command : List ℕ) (words : List (List ℕ)) (root : List ℕ) : Type 0 where
@@ -45,27 +77,42 @@ IsCheck words root = IsOfRoot (codes "check") words root
 abbrev pub IsPrint : List (List ℕ) → List ℕ → Type 0
 IsPrint words root = IsOfRoot (codes "print") words root
 
--- the words aren't `run ROOT EVENTS` with or without `--log`, or not `check ROOT`, or not `print ROOT`
-abbrev pub IsNoRunOf : Bool → List (List ℕ) → Type 0
-IsNoRunOf logs words = (root events : List ℕ) → IsRun words root events logs → ⊥
+-- a number as it is written, without leading zeros, up to 1,000
+pub record IsCount (word : List ℕ) (count : ℕ) : Type 0 where
+  pub spelled : word ≡ decimal count
+  pub most : count ≤ GEN_LIMIT
 
+-- the words `gen N`
+pub record IsGen (words : List (List ℕ)) (count : ℕ) : Type 0 where
+  pub form : words ≡ codes "gen" ∷ decimal count ∷ []
+  pub most : count ≤ GEN_LIMIT
+
+-- the words aren't `run ROOT EVENTS` with flags, or not `check ROOT`, or not `print ROOT`, or not `gen N`
 abbrev pub IsNoRun : List (List ℕ) → Type 0
-IsNoRun words = (root events : List ℕ) (logs : Bool) → IsRun words root events logs → ⊥
+IsNoRun words = (root events : List ℕ) (flags : Flags) → IsRun words root events flags → ⊥
+
+abbrev pub IsNoneOfRoot : List ℕ → List (List ℕ) → Type 0
+IsNoneOfRoot command words = (root : List ℕ) → IsOfRoot command words root → ⊥
 
 abbrev pub IsNoCheck : List (List ℕ) → Type 0
-IsNoCheck words = (root : List ℕ) → IsCheck words root → ⊥
+IsNoCheck words = IsNoneOfRoot (codes "check") words
 
 abbrev pub IsNoPrint : List (List ℕ) → Type 0
-IsNoPrint words = (root : List ℕ) → IsPrint words root → ⊥
+IsNoPrint words = IsNoneOfRoot (codes "print") words
+
+abbrev pub IsNoGen : List (List ℕ) → Type 0
+IsNoGen words = (count : ℕ) → IsGen words count → ⊥
 
 -- they are no form
 pub record IsNoForm (words : List (List ℕ)) : Type 0 where
   pub no_run : IsNoRun words
   pub no_check : IsNoCheck words
   pub no_print : IsNoPrint words
+  pub no_gen : IsNoGen words
 
 -- the words are the form that a command says
 abbrev pub IsCommand : List (List ℕ) → Command → Type 0
-IsCommand words (Run root events logs) = IsRun words root.now events.now logs
+IsCommand words (Run root events flags) = IsRun words root.now events.now flags
 IsCommand words (Check root) = IsCheck words root.now
 IsCommand words (Print root) = IsPrint words root.now
+IsCommand words (Gen count) = IsGen words count

@@ -9,6 +9,7 @@ use std::alloc::Global;
 use sv_base::NoMemory;
 use sv_code::Program;
 use sv_events::Event;
+use sv_play::Flags;
 
 /// Why no turn is run.
 #[derive(Drop)]
@@ -35,11 +36,16 @@ pub enum Refusal {
 pub enum Job {
     /// Print one line.
     Refuse(Refusal),
-    /// Print the turns of the program under these events, with its logs where they are asked for.
+    /// Print the turns of the program under these events, with what the flags ask for.
     Play {
         program: Program,
         events: Vec<Event>,
-        logs: bool,
+        flags: Flags,
+    },
+    /// Print what the turns of the program under these events come to.
+    Sum {
+        program: Program,
+        events: Vec<Event>,
     },
     /// Say that the program is accepted.
     Accept,

@@ -1,9 +1,11 @@
 //! The top call: it reads the files that the words of a command line name, and prints what they ask for: the pages of a run, the first
-//! mistake of a program, or the listing of what it is compiled to. `run` carries what is promised.
+//! mistake of a program, the listing of what it is compiled to, or the sums of a run of a generated program. `run` carries what is promised.
 #![tactic(auto)]
 
 mod check;
+mod command;
 mod events;
+mod generate;
 mod job;
 mod kinds;
 mod laws;
@@ -11,7 +13,6 @@ mod play;
 mod refusals;
 mod status;
 mod top;
-mod command;
 
 pub use laws::one_answer;
 pub use status::Status;

@@ -17,16 +17,17 @@ use sv_code::Program;
 use sv_compile::compile;
 use sv_io::{Shelf, ShelfError};
 use sv_load::load;
+use sv_play::Flags;
 
 /// The answer to `run ROOT EVENTS`: the program is loaded and checked, then the events file is read, and then the program is compiled.
 pub fn decide_run<F: Shelf>(
     alloc: Global,
     root: &str,
     file: &str,
-    logs: bool,
+    flags: Flags,
     shelf: &mut F,
 ) -> Result<Job, ShelfError>
-    ensures answer { IfOk result (λ job. IfSome (F.files shelf.old) (λ files. IsPlayed files root.now file.now logs (answer_of job))) }
+    ensures answer { IfOk result (λ job. IfSome (F.files shelf.old) (λ files. IsPlayed files root.now file.now flags (answer_of job))) }
     ensures playable { IfOk result IsPlayable }
     ensures later { F.faults shelf.old ≤ F.faults shelf.new }
     ensures failed { result ≡ Err ShelfError.Failed → Rose (F.faults shelf.old) (F.faults shelf.new) }
@@ -36,7 +37,7 @@ pub fn decide_run<F: Shelf>(
         Err(error) => return not_loaded(alloc, &error),
     };
     match check(alloc, &bundle) {
-        Ok(checked) => under_events(alloc, &checked, file, logs, shelf),
+        Ok(checked) => under_events(alloc, &checked, file, flags, shelf),
         Err(error) => unclean(alloc, &bundle, &error),
     }
 }
@@ -46,13 +47,13 @@ fn under_events<F: Shelf>(
     alloc: Global,
     checked: &Checked<'_>,
     file: &str,
-    logs: bool,
+    flags: Flags,
     shelf: &mut F,
 ) -> Result<Job, ShelfError>
     requires checked { AreChecked checked.now.bundle.now checked.now.components }
     requires lines { LinesAscend checked.now.bundle.now.files }
     ensures answer { IfOk result (λ job. IfSome (F.files shelf.old) (λ files.
-        (root : List ℕ) → Accepts files root checked.now.bundle.now → IsPlayed files root file.now logs (answer_of job))) }
+        (root : List ℕ) → Accepts files root checked.now.bundle.now → IsPlayed files root file.now flags (answer_of job))) }
     ensures playable { IfOk result IsPlayable }
     ensures later { F.faults shelf.old ≤ F.faults shelf.new }
     ensures failed { result ≡ Err ShelfError.Failed → Rose (F.faults shelf.old) (F.faults shelf.new) }
@@ -63,16 +64,16 @@ fn under_events<F: Shelf>(
             Ok(Job::Play {
                 program,
                 events,
-                logs,
+                flags,
             })
         }
         Loaded::Refused(refusal) => Ok(Job::Refuse(refusal)),
     }
 }
 
-// What a checked program is compiled to.
+/// What a checked program is compiled to.
 #[tactic(auto, using(sv_code::proofs::Compiled::lines_ascend))]
-fn compiled(alloc: Global, checked: &Checked<'_>) -> Result<Program, NoMemory>
+pub fn compiled(alloc: Global, checked: &Checked<'_>) -> Result<Program, NoMemory>
     requires checked { AreChecked checked.now.bundle.now checked.now.components }
     requires lines { LinesAscend checked.now.bundle.now.files }
     ensures compiles { IfOk result (Compiles checked.now.bundle.now) }

@@ -8,14 +8,15 @@ ghost use Rattle.sv_run.specs.Run.{RunAnswers, RunCompletes};
 ghost use Rattle.sv_run.specs.Texts.{bytes_of};
 
 use crate::check::{decide_check, decide_print};
+use crate::command::{Command, command_of};
+use crate::generate::decide_gen;
 use crate::job::{Job, Refusal};
 use crate::laws::one_answer;
 use crate::play::decide_run;
 use crate::status::Status;
-use crate::command::{Command, command_of};
 use std::alloc::Global;
 use sv_io::{Shelf, ShelfError, Sink, SinkError, write_all};
-use sv_play::play;
+use sv_play::{play, summarize};
 
 // What the words and the files ask for.
 fn decide<F: Shelf>(alloc: Global, words: &[String], shelf: &mut F) -> Result<Job, ShelfError>
@@ -24,11 +25,18 @@ fn decide<F: Shelf>(alloc: Global, words: &[String], shelf: &mut F) -> Result<Jo
     ensures later { F.faults shelf.old ≤ F.faults shelf.new }
     ensures failed { result ≡ Err ShelfError.Failed → Rose (F.faults shelf.old) (F.faults shelf.new) }
 {
-    match command_of(words) {
-        Some(Command::Run { root, events, logs }) => decide_run(alloc, root, events, logs, shelf),
-        Some(Command::Check { root }) => decide_check(alloc, root, shelf),
-        Some(Command::Print { root }) => decide_print(alloc, root, shelf),
-        None => Ok(Job::Refuse(Refusal::Usage)),
+    let Some(command) = command_of(alloc, words)? else {
+        return Ok(Job::Refuse(Refusal::Usage));
+    };
+    match command {
+        Command::Run {
+            root,
+            events,
+            flags,
+        } => decide_run(alloc, root, events, flags, shelf),
+        Command::Check { root } => decide_check(alloc, root, shelf),
+        Command::Print { root } => decide_print(alloc, root, shelf),
+        Command::Gen { count } => decide_gen(alloc, count),
     }
 }
 
@@ -57,9 +65,13 @@ fn answer<K: Sink>(alloc: Global, job: &Job, out: &mut K) -> Result<Status, Sink
         Job::Play {
             program,
             events,
-            logs,
+            flags,
         } => {
-            let refused = play(alloc, program, events, *logs, out)?;
+            let refused = play(alloc, program, events, *flags, out)?;
+            Ok(turned(refused))
+        }
+        Job::Sum { program, events } => {
+            let refused = summarize(alloc, program, events, out)?;
             Ok(turned(refused))
         }
         Job::Accept => {
@@ -76,11 +88,11 @@ fn answer<K: Sink>(alloc: Global, job: &Job, out: &mut K) -> Result<Status, Sink
 /// Reads the files that the words name, prints what they ask for, and answers how it ended.
 pub fn run<F: Shelf, K: Sink>(alloc: Global, words: &[String], shelf: &mut F, out: &mut K) -> Status
     // Where the files are told: what was written is the output of an answer with this status that the words and the files
-    // call for, nothing after a failed read, and nothing or a front of such an output where a write failed or memory is wanted.
+    // call for, nothing after a failed read, and nothing or a prefix of such an output where a write failed or memory runs out.
     ensures answers { IfSome (F.files shelf.old) (λ files.
         RunAnswers (bytes_of words.now) files (K.written out.old) (K.written out.new) result) }
 
-    // Where no count of faults rose, each answer that they call for is given, unless memory is wanted.
+    // Where no count of faults rose, each answer that they call for is given, unless memory runs out.
     ensures completes { IfSome (F.files shelf.old) (λ files.
         (Rose (F.faults shelf.old) (F.faults shelf.new) → ⊥) → (Rose (K.faults out.old) (K.faults out.new) → ⊥)
         → RunCompletes (bytes_of words.now) files (K.written out.old) (K.written out.new) result) }

@@ -9,7 +9,7 @@ returns-in-Err-clause-answer g c = ok_weaker c.not_loaded.result
 
 pub returns-in-Ok-check-clause-answer : goal.returns-in-Ok-check-clause-answer
 returns-in-Ok-check-clause-answer g c = ok_weaker c.under_events.result
-    (λ job given. calls-played (g.F.Shelf.files c.args.shelf.now) _ c.args.root.now c.args.file.now c.in-Ok.bundle c.in-Ok-check.checked.bundle.now c.args.logs (answer_of job)
+    (λ job given. calls-played (g.F.Shelf.files c.args.shelf.now) _ c.args.root.now c.args.file.now c.in-Ok.bundle c.in-Ok-check.checked.bundle.now c.args.flags (answer_of job)
     c.in-Ok.ensures.same c.in-Ok-check.ensures.clean c.in-Ok-check.ensures.bundle c.in-Ok.ensures.loads given)
     c.under_events.ensures.answer
 

@@ -1,24 +1,42 @@
 use Rattle.std.proofs.Common.{subst}
+use Rattle.std.specs.Prelude.{IfSome, IfNone}
 use Rattle.sv_run.specs.Job.{answer_of}
-use Rattle.sv_run.specs.Words.{IsCommand}
+use Rattle.sv_run.specs.Words.{IsCommand, IsNoForm}
 use Rattle.sv_run.specs.Texts.{bytes_of}
-use Rattle.sv_run.proofs.Deciding.{ok_weaker, calls-usage, calls-run, calls-check, calls-print}
+use Rattle.sv_run.proofs.Deciding.{ok_weaker, calls-usage, calls-run, calls-check, calls-print, calls-gen}
 use Rattle.sv_run.proofs.top.decide.Goals as goal
 
-pub returns-in-Some-Run-clause-answer : goal.returns-in-Some-Run-clause-answer
-returns-in-Some-Run-clause-answer g c = ok_weaker c.decide_run.result
-    (λ job. calls-run (g.F.Shelf.files c.args.shelf.now) (bytes_of c.args.words.now) c.in-Some-Run.root.now c.in-Some-Run.events.now c.in-Some-Run.logs (answer_of job) (subst (IsCommand (bytes_of c.args.words.now)) c.in-Some-Run.field-0-is c.in-Some-Run.ensures.some))
+pub returns-in-Run-clause-answer : goal.returns-in-Run-clause-answer
+returns-in-Run-clause-answer g c =
+    let words = bytes_of c.args.words.now in
+    let some : IsCommand words c.in-Some.command = subst (λ o. IfSome o (IsCommand words)) c.in-Some.is c.in_ok-command.ensures.some in
+    ok_weaker c.decide_run.result
+    (λ job. calls-run (g.F.Shelf.files c.args.shelf.now) words c.in-Run.root.now c.in-Run.events.now c.in-Run.flags (answer_of job) (subst (IsCommand words) c.in-Run.is some))
     c.decide_run.ensures.answer
 
-pub returns-in-Some-Check-clause-answer : goal.returns-in-Some-Check-clause-answer
-returns-in-Some-Check-clause-answer g c = ok_weaker c.decide_check.result
-    (λ job. calls-check (g.F.Shelf.files c.args.shelf.now) (bytes_of c.args.words.now) c.in-Some-Check.root.now (answer_of job) (subst (IsCommand (bytes_of c.args.words.now)) c.in-Some-Check.field-0-is c.in-Some-Check.ensures.some))
+pub returns-in-Check-clause-answer : goal.returns-in-Check-clause-answer
+returns-in-Check-clause-answer g c =
+    let words = bytes_of c.args.words.now in
+    let some : IsCommand words c.in-Some.command = subst (λ o. IfSome o (IsCommand words)) c.in-Some.is c.in_ok-command.ensures.some in
+    ok_weaker c.decide_check.result
+    (λ job. calls-check (g.F.Shelf.files c.args.shelf.now) words c.in-Check.root.now (answer_of job) (subst (IsCommand words) c.in-Check.is some))
     c.decide_check.ensures.answer
 
-pub returns-in-Some-Print-clause-answer : goal.returns-in-Some-Print-clause-answer
-returns-in-Some-Print-clause-answer g c = ok_weaker c.decide_print.result
-    (λ job. calls-print (g.F.Shelf.files c.args.shelf.now) (bytes_of c.args.words.now) c.in-Some-Print.root.now (answer_of job) (subst (IsCommand (bytes_of c.args.words.now)) c.in-Some-Print.field-0-is c.in-Some-Print.ensures.some))
+pub returns-in-Print-clause-answer : goal.returns-in-Print-clause-answer
+returns-in-Print-clause-answer g c =
+    let words = bytes_of c.args.words.now in
+    let some : IsCommand words c.in-Some.command = subst (λ o. IfSome o (IsCommand words)) c.in-Some.is c.in_ok-command.ensures.some in
+    ok_weaker c.decide_print.result
+    (λ job. calls-print (g.F.Shelf.files c.args.shelf.now) words c.in-Print.root.now (answer_of job) (subst (IsCommand words) c.in-Print.is some))
     c.decide_print.ensures.answer
 
-pub returns-in-None-clause-answer : goal.returns-in-None-clause-answer
-returns-in-None-clause-answer g c = calls-usage (g.F.Shelf.files c.args.shelf.now) (bytes_of c.args.words.now) c.in-None.ensures.none
+pub returns-in-Gen-clause-answer : goal.returns-in-Gen-clause-answer
+returns-in-Gen-clause-answer g c =
+    let words = bytes_of c.args.words.now in
+    let some : IsCommand words c.in-Some.command = subst (λ o. IfSome o (IsCommand words)) c.in-Some.is c.in_ok-command.ensures.some in
+    ok_weaker c.decide_gen.result
+    (λ job. calls-gen (g.F.Shelf.files c.args.shelf.now) words c.in-Gen.count (answer_of job) (subst (IsCommand words) c.in-Gen.is some))
+    c.decide_gen.ensures.answer
+
+pub returns-in_default-clause-answer : goal.returns-in_default-clause-answer
+returns-in_default-clause-answer g c = calls-usage (g.F.Shelf.files c.args.shelf.now) (bytes_of c.args.words.now) (subst (λ o. IfNone o (IsNoForm (bytes_of c.args.words.now))) c.in_default.is c.in_ok-command.ensures.none)
