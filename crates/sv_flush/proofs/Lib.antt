@@ -6,3 +6,11 @@ pub mod Entries
 pub mod Tags
 pub mod Creating
 pub mod Backwards
+pub mod Lookups
+pub mod Bringing
+pub mod Settling
+pub mod Recording
+pub mod Tracking
+pub mod Playing
+pub mod Presenting
+pub mod Blank

@@ -12,3 +12,5 @@ pub mod Showing
 pub mod Creation
 pub mod Sites
 pub mod Flush
+pub mod Settled
+pub mod Records

@@ -4,6 +4,8 @@ ghost use Rattle.sv_flush.specs.Creation.{mounted};
 ghost use Rattle.sv_flush.specs.Flush as spec;
 ghost use Rattle.sv_flush.specs.Meets.{Meets};
 ghost use Rattle.sv_flush.specs.Outcome.{each};
+ghost use Rattle.sv_flush.specs.Records.{RecordsSeen, ShowsPresent};
+ghost use Rattle.sv_flush.specs.Settled.{IsSettled};
 ghost use Rattle.sv_flush.specs.Waits.{binding_of, waiting_of};
 
 use crate::create::Handed;
@@ -20,9 +22,17 @@ use sv_states::{DEPTH_LIMIT, States};
 use sv_value::Inst;
 
 impl Machine<'_> {
-    /// Runs the module files and makes the root, with all below it.
-    #[tactic(auto, unfolding(crate::specs::Creation::mounted))]
+    /// Runs the module files and makes the root, with all below it. What was recorded stays what snapshots saw.
     pub fn mount(&self, page: &mut Page) -> Result<(), PatchError>
+        ensures run { Meets result page.new (mounted self.now.program.now page.old) }
+        ensures records { OnOk result (RecordsSeen page.old → RecordsSeen page.new) }
+    {
+        page.world.states.facts();
+        self.make_root(page)
+    }
+
+    #[tactic(auto, unfolding(crate::specs::Creation::mounted))]
+    fn make_root(&self, page: &mut Page) -> Result<(), PatchError>
         ensures { Meets result page.new (mounted self.now.program.now page.old) }
     {
         told(run_modules(self.alloc, self.program, &mut page.world))?;
@@ -99,9 +109,20 @@ impl Machine<'_> {
         self.render(page)
     }
 
-    /// Runs rounds until nobody waits, one at least. A refusal comes exactly where one of them meets it.
-    #[tactic(auto, unfolding(crate::specs::Flush::flushed))]
+    /// Runs rounds until nobody waits, one at least. A refusal comes exactly where one of them meets it. Where it ends, nothing waits any more, and
+    /// each live instance that is shown is shown on its present cells.
     pub fn flush(&self, page: &mut Page) -> Result<(), PatchError>
+        ensures run { Meets result page.new (spec.flushed self.now.program.now page.old) }
+        ensures settled { OnOk result (IsSettled page.new) }
+        ensures records { OnOk result (RecordsSeen page.old → RecordsSeen page.new) }
+        ensures present { OnOk result (RecordsSeen page.old → ShowsPresent page.new) }
+    {
+        page.world.states.facts();
+        self.run_rounds(page)
+    }
+
+    #[tactic(auto, unfolding(crate::specs::Flush::flushed))]
+    fn run_rounds(&self, page: &mut Page) -> Result<(), PatchError>
         ensures { Meets result page.new (spec.flushed self.now.program.now page.old) }
     {
         self.round(page)?;

@@ -2,3 +2,4 @@ pub mod Turns
 pub mod Run
 pub mod Errors
 pub mod Plays
+pub mod Current

@@ -1,0 +1,10 @@
+use Rattle.sv_flush.proofs.Presenting.{flushed_settled, flushed_records, flushed_present}
+use Rattle.sv_flush.proofs.machine.Machine.flush.Goals as goal
+
+pub returns : goal.returns
+returns c = record {
+  run = c.run_rounds.ensures;
+  settled = flushed_settled _ _ _ _ c.run_rounds.ensures;
+  records = flushed_records _ _ _ _ c.facts.ensures.sound c.run_rounds.ensures;
+  present = flushed_present _ _ _ _ c.facts.ensures.sound c.run_rounds.ensures;
+}

@@ -1,0 +1,6 @@
+pub mod Outcomes
+pub mod Values
+pub mod Statements
+pub mod Running
+pub mod Altering
+pub mod Leaving

@@ -1,0 +1,128 @@
+-- What is true of the states and stays so, whatever is done one after another.
+use Rattle.std.proofs.Common.{ℕ, zero, suc, Bool, true, false, Option, Some, None, if◌then◌else◌}
+use Rattle.sv_base.specs.declared.span.Span.{Span}
+use Rattle.sv_instance.specs.declared.setup.Setup.{Setup}
+use Rattle.sv_meaning.specs.Env.{Env}
+use Rattle.sv_meaning.specs.Outcome.{Ending, Ends, Fails, Outcome, Done, Failed, Meaning, Deed, and_then, then_do, kept, doing, left, given, either, with_steps, less_by, spent_in, spent, counted_in, counted, answered}
+use Rattle.sv_ops.specs.Answer.{Answer, Gives, Refuses}
+use Rattle.sv_ops.specs.declared.faults.FaultKind.{FaultKind}
+use Rattle.sv_states.specs.Assignment as states
+use Rattle.sv_states.specs.Change as states_change
+use Rattle.sv_states.specs.States.{States, with_instance}
+use Rattle.sv_store.specs.Stores.{Subscriber}
+use Rattle.sv_value.specs.Value.{Val}
+use Rattle.sv_world.specs.declared.world.World.{World}
+
+-- it stays true whatever scripts do to the states, one thing at a time
+pub record Stays (P : States → Type 0) : Type 0 where
+  pub left : (s : States) (f : Setup → Setup) (n : ℕ) → P s → P (with_instance (λ i. record i { setup = f i.setup }) s n)
+  pub assigned : (s : States) (n c : ℕ) (v : Val) → P s → P (states.assigned s n c v)
+  pub store_set : (s : States) (id : ℕ) (v : Val) → P s → P (states.store_set s id v)
+  pub with_store : (s : States) (v : Val) → P s → P (states_change.with_store s v)
+  pub declared : (s : States) (p : Subscriber) (v : Val) → P s → P (states_change.declared s p v)
+  pub subscribed : (s : States) (p : Subscriber) (id : ℕ) → P s → P (states_change.subscribed_to s p id)
+
+abbrev pub Held : (P : States → Type 0) {A : Type 0} → Outcome A → Type 0
+Held P (Done a env w) = P w.states
+Held P (Failed k s w) = P w.states
+
+abbrev pub Left : (P : States → Type 0) {A : Type 0} → Ending A → Type 0
+Left P (Ends a w) = P w.states
+Left P (Fails k s w) = P w.states
+
+-- code keeps it true
+pub record Keeps (P : States → Type 0) {A : Type 0} (m : Meaning A) : Type 0 where
+  pub held : (env : Env) (w : World) → P w.states → Held P (m env w)
+
+-- a deed keeps it true
+pub record Leaves (P : States → Type 0) {A : Type 0} (d : Deed A) : Type 0 where
+  pub held : (w : World) → P w.states → Left P (d w)
+
+module _ (P : States → Type 0) where
+  pub then_held : {A B : Type 0} (o : Outcome A) (go : A → Meaning B) → Held P o → ((a : A) (env : Env) (w : World) → P w.states → Held P (go a env w)) → Held P (and_then o go)
+  then_held (Done a env w) go h k = k a env w h
+  then_held (Failed kind s w) go h k = h
+
+  pub then_left : {A B : Type 0} (e : Ending A) (go : A → Deed B) → Left P e → ((a : A) (w : World) → P w.states → Left P (go a w)) → Left P (then_do e go)
+  then_left (Ends a w) go h k = k a w h
+  then_left (Fails kind s w) go h k = h
+
+  pub if_left : {A : Type 0} (b : Bool) (x y : Ending A) → Left P x → Left P y → Left P (if b then x else y)
+  if_left true x y h k = h
+  if_left false x y h k = k
+
+  kept_held : {A : Type 0} (env : Env) (e : Ending A) → Left P e → Held P (kept env e)
+  kept_held env (Ends a w) h = h
+  kept_held env (Fails k s w) h = h
+
+  left_held : {A : Type 0} (o : Outcome A) → Held P o → Left P (left o)
+  left_held (Done a env w) h = h
+  left_held (Failed k s w) h = h
+
+module _ {P : States → Type 0} where
+  -- ---- code
+
+  pub then_keeps : {A B : Type 0} {m : Meaning A} {go : A → Meaning B} → Keeps P m → ((a : A) → Keeps P (go a)) → Keeps P (λ env w. and_then (m env w) go)
+  then_keeps {m = m} {go = go} k l = record { held = λ env w h. then_held P (m env w) go (k.held env w h) (λ a env' w' h'. (l a).held env' w' h') }
+
+  pub done_keeps : {A : Type 0} (a : A) → Keeps P (Done a)
+  done_keeps a = record { held = λ env w h. h }
+
+  pub failed_keeps : {A : Type 0} (k : FaultKind) (s : Span) → Keeps P {A = A} (λ env w. Failed k s w)
+  failed_keeps k s = record { held = λ env w h. h }
+
+  pub either_keeps : {A : Type 0} (b : Bool) {m n : Meaning A} → Keeps P m → Keeps P n → Keeps P (either b m n)
+  either_keeps true k l = k
+  either_keeps false k l = l
+
+  pub counted_keeps : {A : Type 0} (s : Span) {m : Meaning A} → Keeps P m → Keeps P (counted s m)
+  counted_keeps s {m = m} k = record { held = λ env w h. go w.turn.steps env w h } where
+    go : (n : ℕ) (env : Env) (w : World) → P w.states → Held P (counted_in n s m env w)
+    go zero env w h = h
+    go (suc n) env w h = k.held env (with_steps n w) h
+
+  -- ---- deeds
+
+  pub then_leaves : {A B : Type 0} {d : Deed A} {go : A → Deed B} → Leaves P d → ((a : A) → Leaves P (go a)) → Leaves P (λ w. then_do (d w) go)
+  then_leaves {d = d} {go = go} k l = record { held = λ w h. then_left P (d w) go (k.held w h) (λ a w' h'. (l a).held w' h') }
+
+  pub ends_leaves : {A : Type 0} (a : A) → Leaves P (Ends a)
+  ends_leaves a = record { held = λ w h. h }
+
+  pub fails_leaves : {A : Type 0} (k : FaultKind) (s : Span) → Leaves P {A = A} (Fails k s)
+  fails_leaves k s = record { held = λ w h. h }
+
+  pub if_leaves : {A : Type 0} (b : Bool) {d e : Deed A} → Leaves P d → Leaves P e → Leaves P (if b then d else e)
+  if_leaves true k l = k
+  if_leaves false k l = l
+
+  pub given_leaves : {A : Type 0} (k : FaultKind) (s : Span) (o : Option A) → Leaves P (given k s o)
+  given_leaves k s None = record { held = λ w h. h }
+  given_leaves k s (Some a) = record { held = λ w h. h }
+
+  pub spent_leaves : {A : Type 0} (n : ℕ) (s : Span) {d : Deed A} → Leaves P d → Leaves P (spent n s d)
+  spent_leaves n s {d = d} k = record { held = λ w h. go (less_by n w.turn.steps) w h } where
+    go : (o : Option ℕ) (w : World) → P w.states → Left P (spent_in o s d w)
+    go None w h = h
+    go (Some steps) w h = k.held (with_steps steps w) h
+
+  pub answered_leaves : (s : Span) (a : Answer) → Leaves P (answered s a)
+  answered_leaves s (Gives cost v) = spent_leaves cost s (ends_leaves v)
+  answered_leaves s (Refuses k) = fails_leaves k s
+
+  -- ---- one in the other
+
+  pub doing_keeps : {A : Type 0} {d : Deed A} → Leaves P d → Keeps P (doing d)
+  doing_keeps {d = d} k = record { held = λ env w h. kept_held P env (d w) (k.held w h) }
+
+  -- a deed that the open names tell
+  pub kept_keeps : {A : Type 0} {d : Env → Deed A} → ((env : Env) → Leaves P (d env)) → Keeps P (λ env w. kept env (d env w))
+  kept_keeps {d = d} k = record { held = λ env w h. kept_held P env (d env w) ((k env).held w h) }
+
+  pub left_leaves : {A : Type 0} {m : Meaning A} (env : Env) → Keeps P m → Leaves P (λ w. left (m env w))
+  left_leaves {m = m} env k = record { held = λ w h. left_held P (m env w) (k.held env w h) }
+
+  -- ---- lists of parts, and parts that may be absent
+
+  pub answered_keeps : (s : Span) (a : Answer) → Keeps P (doing (answered s a))
+  answered_keeps s a = doing_keeps (answered_leaves s a)

@@ -1,0 +1,281 @@
+-- What stays true of the states whatever is called, told or run.
+use Rattle.std.proofs.Common.{◌≡◌, refl, ℕ, zero, suc, Bool, true, false, List, [], ◌∷◌, map, Option, Some, None, Result, Ok, Err, slice_get}
+use Rattle.sv_base.specs.declared.span.Span.{Span}
+use Rattle.sv_code.specs.declared.fragments.FragAttr.{FragAttr}
+use Rattle.sv_code.specs.declared.functions.CodeDecl.{CodeDecl}
+use Rattle.sv_code.specs.declared.functions.CodeStmt.{CodeStmt}
+use Rattle.sv_code.specs.declared.functions.CodeArm.{CodeArm}
+use Rattle.sv_code.specs.declared.functions.CodeStmtKind.{CodeStmtKind, CodeStmtKind-F, out-CodeStmtKind}
+use Rattle.sv_code.specs.declared.functions.Function.{Function}
+use Rattle.sv_code.specs.declared.functions.FunctionBody.{FunctionBody}
+use Rattle.sv_code.specs.declared.functions.FunctionBody.TheVariants as body
+use Rattle.sv_code.specs.declared.known.Known.{Known}
+use Rattle.sv_code.specs.declared.known.Known.TheVariants as known
+use Rattle.sv_code.specs.declared.parts.Part.{Part}
+use Rattle.sv_code.specs.declared.program.Component.{Component}
+use Rattle.sv_code.specs.declared.program.FileCode.{FileCode}
+use Rattle.sv_code.specs.declared.program.FileCode.TheVariants as file_code
+use Rattle.sv_code.specs.declared.program.Program.{Program}
+use Rattle.sv_code.specs.declared.program.ProgramFile.{ProgramFile}
+use Rattle.sv_code.specs.declared.program.Run.{Run}
+use Rattle.sv_code.specs.declared.program.StoreCell.{StoreCell}
+use Rattle.sv_code.specs.declared.tags.Handler.{Handler}
+use Rattle.sv_frame.proofs.Outcomes.{Stays, Keeps, Leaves, Left, then_left, then_keeps, done_keeps, counted_keeps, then_leaves, ends_leaves, fails_leaves, given_leaves, answered_leaves, left_leaves}
+use Rattle.sv_frame.proofs.Statements.{value_or_keeps, constant_stays, subscribe_leaves, declare_keeps, in_order_keeps, valued_keeps, run_keeps, runs_keep}
+use Rattle.sv_frame.proofs.Values.{Each, CallerKeeps, value_leaves, make_leaves, expr_keeps}
+use Rattle.sv_meaning.specs.Calls.{Caller, first, second}
+use Rattle.sv_meaning.specs.Components.{component_of}
+use Rattle.sv_meaning.specs.Env.{Env}
+use Rattle.sv_meaning.specs.Functions.{Teller, dispatched, dispatch, event_fields, entered, env_of, found, if_there, returned, caller}
+use Rattle.sv_meaning.specs.Listeners.{heard_value, heard_result, heard_on, heard, heard_if, heard_attr, heard_by, heard_from, handler_of, is_named, listener_view, Hearer, hearer_of, attrs_of, told, teller, source}
+use Rattle.sv_meaning.specs.Outcome.{Fails, Meaning, Deed, given}
+use Rattle.sv_meaning.specs.Parts.{part_value}
+use Rattle.sv_meaning.specs.Runs.{world_ground, calls, each_in_turn, function_set, functions_set, given_for, prop_value, prop_declared, top_kind, top, script, modules_opened, run_module, run_modules, cell_opened, cells_opened, view_opened, imported_subscribed, opened, run_component, run_top, is_due, inner, run_at, run_due, run_reactive, source_of, called}
+use Rattle.sv_meaning.specs.Sight.{Ground, is_there}
+use Rattle.sv_meaning.specs.Statements.{subscribe}
+use Rattle.sv_meaning.specs.declared.limits.TheConstants.{CALL_LIMIT}
+use Rattle.sv_ops.specs.Answer.{object_made}
+use Rattle.sv_ops.specs.declared.faults.Fault.{Fault}
+use Rattle.sv_ops.specs.declared.faults.FaultKind.TheVariants.{NotText, NotAFunction, CallDepth, UseBeforeInit}
+use Rattle.sv_states.specs.States.{States, live}
+use Rattle.sv_states.specs.declared.states.TheConstants.{DEPTH_LIMIT}
+use Rattle.sv_value.specs.Value.{Val, undefined, null, boolean, number, text, list, object, function, store, items, none}
+use Rattle.sv_view.specs.Constants.{module_constant_at}
+use Rattle.sv_view.specs.Level.{View}
+use Rattle.sv_view.specs.Local.{Local}
+use Rattle.sv_world.specs.declared.world.World.{World}
+
+module _ (P : States → Type 0) where
+  abbrev pub TellerKeeps : Teller → Type 0
+  TellerKeeps tell = (call : Caller) → CallerKeeps P call → (i : ℕ) (name : List ℕ) (e : Val) → Leaves P (tell call i name e)
+
+module _ {P : States → Type 0} (stays : Stays P) where
+  -- ---- functions
+
+  dispatched_leaves : {tell : Val → Deed (Unit {0})} (s : Span) (name : List ℕ) (d : Val) → ((e : Val) → Leaves P (tell e)) → Leaves P (dispatched tell s name d)
+  dispatched_leaves s name d k = then_leaves (answered_leaves s (object_made (event_fields name d))) (λ e. then_leaves (k e) (λ u. ends_leaves (boolean true)))
+
+  dispatch_leaves : {tell : List ℕ → Val → Deed (Unit {0})} (s : Span) (v d : Val) → ((name : List ℕ) (e : Val) → Leaves P (tell name e)) → Leaves P (dispatch tell s v d)
+  dispatch_leaves s (text name) d k = dispatched_leaves s name d (k name)
+  dispatch_leaves s undefined d k = fails_leaves NotText s
+  dispatch_leaves s null d k = fails_leaves NotText s
+  dispatch_leaves s (boolean b) d k = fails_leaves NotText s
+  dispatch_leaves s (number n) d k = fails_leaves NotText s
+  dispatch_leaves s (list vs) d k = fails_leaves NotText s
+  dispatch_leaves s (object fs) d k = fails_leaves NotText s
+  dispatch_leaves s (function c o held) d k = fails_leaves NotText s
+  dispatch_leaves s (store id) d k = fails_leaves NotText s
+
+  module _ (tell : Teller) (tells : TellerKeeps P tell) (g : Ground) where
+    entered_leaves : (call : Caller) → CallerKeeps P call → (b : FunctionBody) (o : ℕ) (env : Env) (args : List Val) (s : Span) → Leaves P (entered b tell g call o env args s)
+    entered_leaves call k (body.Value e) o env args s = left_leaves env (expr_keeps stays g call k o e)
+    entered_leaves call k (body.Block stmts) o env args s = then_leaves (left_leaves env (in_order_keeps stays _ (runs_keep stays g call k o stmts))) (λ f. ends_leaves (returned f))
+    entered_leaves call k body.Dispatch o env args s = dispatch_leaves s (first args) (second args) (λ name e. tells call k o name e)
+    entered_leaves call k body.Writable o env args s = make_leaves stays (first args)
+
+    found_leaves : (call : Caller) → CallerKeeps P call → (f : Option Function) (o : ℕ) (held args : List Val) (s : Span) → Leaves P (found f tell g call o held args s)
+    found_leaves call k None o held args s = ends_leaves undefined
+    found_leaves call k (Some f) o held args s = entered_leaves call k f.body o (env_of f held args) args s
+
+    there_left : (b : Bool) (s : Span) (d : Deed Val) (w : World) → Leaves P d → P w.states → Left P (if_there b s d w)
+    there_left true s d w k h = k.held w h
+    there_left false s d w k h = h
+
+    -- a call, with so many more that may be open
+    pub caller_keeps : (room : ℕ) → CallerKeeps P (caller tell g room)
+    caller_keeps zero c o held args s = record { held = λ w h. there_left (is_there g.sight o w) s (Fails CallDepth s) w (fails_leaves CallDepth s) h }
+    caller_keeps (suc room) c o held args s = record { held = λ w h. there_left (is_there g.sight o w) s _ w (found_leaves (caller tell g room) (caller_keeps room) (slice_get g.program.functions c) o (items held) args s) h }
+
+  -- ---- listeners of tags
+
+  module _ (p : Program) (call : Caller) (k : CallerKeeps P call) where
+    heard_value_leaves : (s : Span) (v e : Val) → Leaves P (heard_value p call s v e)
+    heard_value_leaves s undefined e = ends_leaves tt
+    heard_value_leaves s null e = ends_leaves tt
+    heard_value_leaves s (function c o held) e = then_leaves (k c o held (e ∷ []) (source p c s)) (λ v. ends_leaves tt)
+    heard_value_leaves s (boolean b) e = fails_leaves NotAFunction s
+    heard_value_leaves s (number n) e = fails_leaves NotAFunction s
+    heard_value_leaves s (text t) e = fails_leaves NotAFunction s
+    heard_value_leaves s (list vs) e = fails_leaves NotAFunction s
+    heard_value_leaves s (object fs) e = fails_leaves NotAFunction s
+    heard_value_leaves s (store id) e = fails_leaves NotAFunction s
+
+    heard_result_leaves : (s : Span) (r : Result Val Fault) (e : Val) → Leaves P (heard_result p call s r e)
+    heard_result_leaves s (Ok v) e = heard_value_leaves s v e
+    heard_result_leaves s (Err f) e = fails_leaves f.kind f.span
+
+    heard_on_leaves : (o : Option View) (part : Part) (e : Val) → Leaves P (heard_on o p call part e)
+    heard_on_leaves None part e = ends_leaves tt
+    heard_on_leaves (Some v) part e = heard_result_leaves part.span (part_value p v part.code) e
+
+    abbrev OnwardKeeps : (ℕ → Val → Deed (Unit {0})) → Type 0
+    OnwardKeeps onward = (owner : ℕ) (e : Val) → Leaves P (onward owner e)
+
+    heard_leaves : (onward : ℕ → Val → Deed (Unit {0})) → OnwardKeeps onward → (owner : ℕ) (locals : List Local) (o : Option Part) (e : Val) → Leaves P (heard onward p call owner locals o e)
+    heard_leaves onward on owner locals None e = on owner e
+    heard_leaves onward on owner locals (Some part) e = record { held = λ w h. (heard_on_leaves (listener_view w owner locals) part e).held w h }
+
+    heard_if_leaves : (b : Bool) (onward : ℕ → Val → Deed (Unit {0})) → OnwardKeeps onward → (owner : ℕ) (locals : List Local) (o : Option Part) (e : Val) → Leaves P (heard_if b onward p call owner locals o e)
+    heard_if_leaves true onward on owner locals o e = heard_leaves onward on owner locals o e
+    heard_if_leaves false onward on owner locals o e = ends_leaves tt
+
+    heard_attr_leaves : (o : Option Handler) (onward : ℕ → Val → Deed (Unit {0})) → OnwardKeeps onward → (name : List ℕ) (owner : ℕ) (locals : List Local) (e : Val) → Leaves P (heard_attr o onward p call name owner locals e)
+    heard_attr_leaves None onward on name owner locals e = ends_leaves tt
+    heard_attr_leaves (Some h) onward on name owner locals e = heard_if_leaves (is_named p name h) onward on owner locals h.listener e
+
+    heard_by_leaves : (onward : ℕ → Val → Deed (Unit {0})) → OnwardKeeps onward → (name : List ℕ) (owner : ℕ) (locals : List Local) (attrs : List FragAttr) (e : Val)
+        → Leaves P (heard_by onward p call name owner locals attrs e)
+    heard_by_leaves onward on name owner locals [] e = ends_leaves tt
+    heard_by_leaves onward on name owner locals (a ∷ attrs) e = then_leaves (heard_attr_leaves (handler_of p a) onward on name owner locals e) (λ u. heard_by_leaves onward on name owner locals attrs e)
+
+    heard_from_leaves : (onward : ℕ → Val → Deed (Unit {0})) → OnwardKeeps onward → (name : List ℕ) (o : Option Hearer) (e : Val) → Leaves P (heard_from onward p call name o e)
+    heard_from_leaves onward on name None e = ends_leaves tt
+    heard_from_leaves onward on name (Some h) e = heard_by_leaves onward on name h.owner h.locals (attrs_of p h.tag) e
+
+    told_leaves : (room i : ℕ) (name : List ℕ) (e : Val) → Leaves P (told room p call i name e)
+    told_leaves zero i name e = ends_leaves tt
+    told_leaves (suc room) i name e =
+        record { held = λ w h. (heard_from_leaves (λ owner. told room p call owner name) (λ owner e'. told_leaves room owner name e') name (hearer_of (live w.states i)) e).held w h }
+
+  pub teller_keeps : (p : Program) → TellerKeeps P (teller p)
+  teller_keeps p call k i name e = told_leaves p call k DEPTH_LIMIT i name e
+
+  -- ---- calls by the page
+
+  pub calls_keep : (p : Program) → CallerKeeps P (calls p)
+  calls_keep p = caller_keeps (teller p) (teller_keeps p) (world_ground p) CALL_LIMIT
+
+  pub called_leaves : (p : Program) (v : Val) (args : List Val) (s : Span) → Leaves P (called p v args s)
+  called_leaves p v args s = value_leaves stays (calls p) (calls_keep p) (source_of p v s) v args
+
+  -- ---- scripts
+
+  pub in_turn_leaves : {A : Type 0} (f : A → Deed (Unit {0})) (xs : List A) → ((x : A) → Leaves P (f x)) → Leaves P (each_in_turn f xs)
+  in_turn_leaves f [] k = ends_leaves tt
+  in_turn_leaves f (x ∷ xs) k = then_leaves (k x) (λ u. in_turn_leaves f xs k)
+
+  function_stays : (owner : ℕ) (s : Span) (x : CodeStmtKind-F CodeStmtKind CodeArm CodeStmt) (w : World) → P w.states → P (function_set owner s x w).states
+  function_stays owner s (CodeStmtKind-F.Function x exported (known.Constant n) c) w h = constant_stays stays owner s.file n (function c owner none) w h
+  function_stays owner s (CodeStmtKind-F.Function x exported (known.Local n) c) w h = h
+  function_stays owner s (CodeStmtKind-F.Function x exported (known.Cell n) c) w h = h
+  function_stays owner s (CodeStmtKind-F.Function x exported (known.Export file n) c) w h = h
+  function_stays owner s (CodeStmtKind-F.Function x exported (known.Life l) c) w h = h
+  function_stays owner s (CodeStmtKind-F.Function x exported known.Writable c) w h = h
+  function_stays owner s (CodeStmtKind-F.Function x exported (known.BuiltIn b) c) w h = h
+  function_stays owner s CodeStmtKind-F.Empty w h = h
+  function_stays owner s (CodeStmtKind-F.Block names ms) w h = h
+  function_stays owner s (CodeStmtKind-F.Let ds) w h = h
+  function_stays owner s (CodeStmtKind-F.Const ds exported) w h = h
+  function_stays owner s (CodeStmtKind-F.If arms last) w h = h
+  function_stays owner s (CodeStmtKind-F.While test body) w h = h
+  function_stays owner s (CodeStmtKind-F.For names first test next body) w h = h
+  function_stays owner s (CodeStmtKind-F.Each x fixed e body) w h = h
+  function_stays owner s CodeStmtKind-F.Break w h = h
+  function_stays owner s CodeStmtKind-F.Continue w h = h
+  function_stays owner s (CodeStmtKind-F.Return e) w h = h
+  function_stays owner s (CodeStmtKind-F.Eval e) w h = h
+  function_stays owner s (CodeStmtKind-F.Import i) w h = h
+  function_stays owner s (CodeStmtKind-F.Export ds) w h = h
+  function_stays owner s (CodeStmtKind-F.React m) w h = h
+
+  functions_stay : (owner : ℕ) (stmts : List CodeStmt) (w : World) → P w.states → P (functions_set owner stmts w).states
+  functions_stay owner [] w h = h
+  functions_stay owner (s ∷ stmts) w h = functions_stay owner stmts (function_set owner s.span (out-CodeStmtKind s.kind) w) (function_stays owner s.span (out-CodeStmtKind s.kind) w h)
+
+  prop_value_keeps : (v : Val) {first : Meaning Val} → Keeps P first → Keeps P (prop_value v first)
+  prop_value_keeps undefined k = k
+  prop_value_keeps null k = done_keeps null
+  prop_value_keeps (boolean b) k = done_keeps (boolean b)
+  prop_value_keeps (number n) k = done_keeps (number n)
+  prop_value_keeps (text t) k = done_keeps (text t)
+  prop_value_keeps (list vs) k = done_keeps (list vs)
+  prop_value_keeps (object fs) k = done_keeps (object fs)
+  prop_value_keeps (function c o held) k = done_keeps (function c o held)
+  prop_value_keeps (store id) k = done_keeps (store id)
+
+  module _ (p : Program) (owner : ℕ) (props : List (ℕ × Val)) where
+    prop_keeps : (d : CodeDecl) → Keeps P (prop_declared p owner props d)
+    prop_keeps d =
+        then_keeps (prop_value_keeps (given_for props d.target) (value_or_keeps stays _ (valued_keeps stays (world_ground p) (calls p) (calls_keep p) owner d.first))) (declare_keeps stays owner d)
+
+    props_keep : (ds : List CodeDecl) → Each (Keeps P) (map (prop_declared p owner props) ds)
+    props_keep [] = tt
+    props_keep (d ∷ ds) = (prop_keeps d, props_keep ds)
+
+    top_kind_keeps : (x : CodeStmtKind-F CodeStmtKind CodeArm CodeStmt) (s : CodeStmt) → Keeps P (top_kind p owner props x s)
+    top_kind_keeps (CodeStmtKind-F.Export ds) s = counted_keeps s.span (in_order_keeps stays _ (props_keep ds))
+    top_kind_keeps _ s = run_keeps stays (world_ground p) (calls p) (calls_keep p) owner s
+
+    tops_keep : (stmts : List CodeStmt) → Each (Keeps P) (map (top p owner props) stmts)
+    tops_keep [] = tt
+    tops_keep (s ∷ stmts) = (top_kind_keeps (out-CodeStmtKind s.kind) s, tops_keep stmts)
+
+    script_leaves : (stmts : List CodeStmt) → Leaves P (script p owner props stmts)
+    script_leaves stmts = then_leaves (left_leaves [] (in_order_keeps stays _ (tops_keep stmts))) (λ f. ends_leaves tt)
+
+  -- ---- module files
+
+  file_left : (p : Program) (c : FileCode) (f : ProgramFile) (w : World) → P w.states → Left P (run_module p (Some (record f { code = c })) w)
+  file_left p (file_code.Component c) f w h = h
+  file_left p (file_code.Module m) f w h = (script_leaves p 0 [] m.script).held (functions_set 0 m.script w) (functions_stay 0 m.script w h)
+
+  module_leaves : (p : Program) (o : Option ProgramFile) → Leaves P (run_module p o)
+  module_leaves p None = ends_leaves tt
+  module_leaves p (Some f) = record { held = λ w h. file_left p f.code f w h }
+
+  pub modules_leave : (p : Program) → Leaves P (run_modules p)
+  modules_leave p = record { held = λ w h. (in_turn_leaves (λ n. run_module p (slice_get p.files n)) p.modules (λ n. module_leaves p (slice_get p.files n))).held (modules_opened p w) h }
+
+  -- ---- components
+
+  cells_stay : (owner : ℕ) (cells : List ℕ) (w : World) → P w.states → P (cells_opened owner cells w).states
+  cells_stay owner [] w h = h
+  cells_stay owner (n ∷ cells) w h = cells_stay owner cells (cell_opened owner w n) (stays.declared w.states (record { inst = owner; cell = n }) undefined h)
+
+  view_stays : (owner : ℕ) (o : Option ℕ) (w : World) → P w.states → P (view_opened owner o w).states
+  view_stays owner None w h = h
+  view_stays owner (Some n) w h = stays.declared w.states (record { inst = owner; cell = n }) undefined h
+
+  opened_stays : (c : Component) (owner : ℕ) (w : World) → P w.states → P (opened c owner w).states
+  opened_stays c owner w h = functions_stay owner c.script _ (view_stays owner c.view _ (cells_stay owner c.reactive w h))
+
+  imported_left : (owner : ℕ) (k : Known) (x : StoreCell) (w : World) → P w.states → Left P (imported_subscribed owner (record x { holder = k }) w)
+  imported_left owner (known.Export file n) x w h =
+      then_left P (given UseBeforeInit x.span (module_constant_at w.modules file n) w) (subscribe owner x.cell x.span) ((given_leaves UseBeforeInit x.span (module_constant_at w.modules file n)).held w h)
+      (λ v w' h'. (subscribe_leaves stays owner x.cell x.span v).held w' h')
+  imported_left owner (known.Local n) x w h = h
+  imported_left owner (known.Cell n) x w h = h
+  imported_left owner (known.Constant n) x w h = h
+  imported_left owner (known.Life l) x w h = h
+  imported_left owner known.Writable x w h = h
+  imported_left owner (known.BuiltIn b) x w h = h
+
+  imported_leaves : (owner : ℕ) (x : StoreCell) → Leaves P (imported_subscribed owner x)
+  imported_leaves owner x = record { held = λ w h. imported_left owner x.holder x w h }
+
+  component_leaves : (p : Program) (c : Component) (owner : ℕ) (props : List (ℕ × Val)) → Leaves P (run_component p c owner props)
+  component_leaves p c owner props = then_leaves (record { held = λ w h. (in_turn_leaves (imported_subscribed owner) c.stores (imported_leaves owner)).held (opened c owner w) (opened_stays c owner w h) }) (λ u. script_leaves p owner props c.script)
+
+  pub top_leaves : (p : Program) (i : ℕ) (props : List (ℕ × Val)) → Leaves P (run_top p i props)
+  top_leaves p i props = record { held = λ w h. by w (component_of p w i) refl h } where
+    by : (w : World) (o : Option Component) → component_of p w i ≡ o → P w.states → Left P (run_top p i props w)
+    by w None e h = rw e h
+    by w (Some c) e h = rw e ((component_leaves p c i props).held w h)
+
+  -- ---- reactive statements
+
+  at_leaves : (p : Program) (i : ℕ) (o : Option CodeStmt) → Leaves P (run_at p i o)
+  at_leaves p i None = ends_leaves tt
+  at_leaves p i (Some s) = then_leaves (left_leaves [] (run_keeps stays (world_ground p) (calls p) (calls_keep p) i (inner s))) (λ f. ends_leaves tt)
+
+  due_leaves : (p : Program) (all : Bool) (i : ℕ) (stmts : List CodeStmt) (r : Run) → Leaves P (run_due p all i stmts r)
+  due_leaves p all i stmts r = record { held = λ w h. by w (is_due all i r w) refl h } where
+    by : (w : World) (b : Bool) → is_due all i r w ≡ b → P w.states → Left P (run_due p all i stmts r w)
+    by w true e h = rw e ((at_leaves p i (slice_get stmts r.stmt)).held w h)
+    by w false e h = rw e h
+
+  pub reactive_leaves : (p : Program) (i : ℕ) (all : Bool) → Leaves P (run_reactive p i all)
+  reactive_leaves p i all = record { held = λ w h. by w (component_of p w i) refl h } where
+    by : (w : World) (o : Option Component) → component_of p w i ≡ o → P w.states → Left P (run_reactive p i all w)
+    by w None e h = rw e h
+    by w (Some c) e h = rw e ((in_turn_leaves (run_due p all i c.script) c.runs (due_leaves p all i c.script)).held w h)

@@ -1,0 +1,16 @@
+// Laws of what scripts do, on functions that do nothing.
+ghost use Rattle.std.specs.Prelude.{ℕ, Bool, List};
+ghost use Rattle.sv_base.specs.declared.span.Span.{Span};
+ghost use Rattle.sv_code.specs.declared.program.Program.{Program};
+ghost use Rattle.sv_frame.specs.Snapshots.{LeavesSnapshots};
+ghost use Rattle.sv_meaning.specs.Runs.{run_modules, run_top, run_reactive, called};
+ghost use Rattle.sv_value.specs.Value.{Val};
+
+/// Whatever module files, the scripts of components, reactive statements and functions do, what was seen of each instance at its last
+/// snapshot stays.
+pub fn scripts_leave_snapshots()
+    ensures modules { (p : Program) → LeavesSnapshots (run_modules p) }
+    ensures top { (p : Program) (n : ℕ) (props : List (ℕ × Val)) → LeavesSnapshots (run_top p n props) }
+    ensures reactive { (p : Program) (n : ℕ) (all : Bool) → LeavesSnapshots (run_reactive p n all) }
+    ensures calls { (p : Program) (v : Val) (args : List Val) (s : Span) → LeavesSnapshots (called p v args s) }
+{}
