@@ -43,8 +43,8 @@ fn others(alloc: Global, locals: &LocalScope<'_>, names: &[Ref]) -> Result<RefLi
     Ok(others)
 }
 
-/// The numbers of the cells that are among some names, ascending. `cells` are those of the component, at most 256. `NoMemory` comes at want
-/// of memory alone.
+/// The numbers of the cells that are among some names, ascending. `cells` are those of the component, at most 256. `NoMemory` comes only
+/// where memory runs out.
 pub fn numbers(alloc: Global, cells: &[Ref], names: &[Ref]) -> Result<CellList, NoMemory>
     requires { length cells.now ≤ 256 }
     ensures { IfOk result (λ numbers. numbers ≡ spec.numbers cells.now names.now) }

@@ -19,7 +19,7 @@ IsCheckPrinted = (e : Element) → count_by (λ a. bytes_eq a.name (codes "check
 
 -- ---- numbers
 
--- Each number that a node has was given before the next one, and no two nodes have the same.
+-- Each number that a mark has was given before the next one, and no two marks have the same.
 pub record IsFair (numbers : Numbers) : Type 0 where
   pub given : (mark number : ℕ) → number_of numbers mark ≡ Some number → number < numbers.next
   pub own : (mark other number : ℕ) → number_of numbers mark ≡ Some number → number_of numbers other ≡ Some number → mark ≡ other
@@ -28,13 +28,13 @@ pub record IsFair (numbers : Numbers) : Type 0 where
 abbrev pub StaysFair : Type 0
 StaysFair = IsFair unnumbered × ((numbers : Numbers) (nodes : List Node) → IsFair numbers → IsFair (numbered nodes numbers))
 
--- A node that stays keeps its number.
+-- The mark of a node that stays keeps its number.
 abbrev pub IsNumberKept : Type 0
 IsNumberKept =
     (numbers : Numbers) (nodes : List Node) (mark number : ℕ) → number_of numbers mark ≡ Some number → list_any (nat_eq mark) (marks nodes) ≡ true
     → number_of (numbered nodes numbers) mark ≡ Some number
 
--- A node without a number gets one that none had.
+-- The mark of a node without a number gets one that none had.
 abbrev pub IsNumberNew : Type 0
 IsNumberNew =
     (numbers : Numbers) (nodes : List Node) (mark : ℕ) → number_of numbers mark ≡ None → list_any (nat_eq mark) (marks nodes) ≡ true

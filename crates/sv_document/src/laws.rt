@@ -7,7 +7,7 @@ pub fn shown_as_printed()
     ensures check { IsCheckPrinted }
 {}
 
-/// A node that stays keeps its printed number, one without a number gets one that none had, and no two have the same.
+/// A mark that stays keeps its printed number, one without a number gets one that none had, and no two marks have the same.
 pub fn one_number()
     ensures fair { StaysFair }
     ensures kept { IsNumberKept }

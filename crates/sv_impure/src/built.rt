@@ -10,8 +10,8 @@ use sv_base::{Names, NoMemory};
 use sv_names::Distinct;
 
 /// The names of `String` and `Boolean`, each unless the file declares it: they may be called like pure functions, and stand for nothing
-/// else. `names` are those with which the file was read, and `declared` are the names of its top level. `NoMemory` comes at want of
-/// memory alone.
+/// else. `names` are those with which the file was read, and `declared` are the names of its top level. `NoMemory` comes only where
+/// memory runs out.
 #[tactic(auto, using(sv_names::proofs::Names::with_names_append))]
 pub fn free_conversions(
     alloc: Global,

@@ -9,8 +9,8 @@ use std::collections::BTreeMap;
 use sv_base::NoMemory;
 use sv_value::Key;
 
-/// For each of these keys its place among some others, the last one where it stands there more than once; `NoMemory` comes at want of
-/// memory alone.
+/// For each of these keys its place among some others, the last one where it stands there more than once; `NoMemory` comes only where
+/// memory runs out.
 pub fn places_among(
     alloc: Global,
     keys: &[Key],

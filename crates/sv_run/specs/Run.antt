@@ -23,8 +23,8 @@ pub record BreaksOff (words : List (List ℕ)) (files : Files) (old new : Option
   pub called_for : IsAnswer words files answer
   pub front : AppendsFront old new (text_of answer)
 
--- what a run with this status wrote: nothing after a failed read, a prefix after a failed write, nothing or a prefix at want of
--- memory, and else the whole output of an answer with this status that is called for
+-- what a run with this status wrote: nothing after a failed read, a prefix after a failed write, nothing or a prefix where
+-- memory ran out, and else the whole output of an answer with this status that is called for
 abbrev pub RunAnswers : List (List ℕ) → Files → Option (List ℕ) → Option (List ℕ) → Status → Type 0
 RunAnswers words files old new statuses.ReadFault = new ≡ old
 RunAnswers words files old new statuses.WriteFault = BreaksOff words files old new

@@ -56,8 +56,8 @@ fn add_part(names: &mut Distinct, part: &AttrPart) -> Result<(), NoMemory>
     }
 }
 
-/// The names of a row, each once: its item, and its index where it has one (Svelte 4 docs, '{#each}'). `NoMemory` comes at want of
-/// memory alone.
+/// The names of a row, each once: its item, and its index where it has one (Svelte 4 docs, '{#each}'). `NoMemory` comes only where
+/// memory runs out.
 pub fn row_names(alloc: Global, item: &Named, index: &Option<Named>) -> Result<Distinct, NoMemory>
     ensures { IfOk result (λ names. names ≡ firsts (spec_row_names item.now index.now)) }
 {
