@@ -1,12 +1,14 @@
 // What names and the content of components look at.
+ghost use Rattle.std.specs.Prelude.{◌≤◌, length};
+
 use crate::mistakes::refused;
 use crate::read::component;
 use crate::unanswered::Unanswered;
 use crate::words::{ref_of, text_of};
 use std::alloc::{AllocError, Global};
 use sv_ast::{Component, Ref, RefList};
-use sv_base::Names;
-use sv_code::{Frag, Functions, Handlers, Reading, Tag, Tags};
+use sv_base::{Names, NoMemory};
+use sv_code::{Frag, Functions, Handlers, Known, Reading, Tag, Tags};
 use sv_deps::reading;
 use sv_fragments::{Around, Tables, fragments_of};
 use sv_lower::TopNames;
@@ -54,7 +56,23 @@ fn beside(
         own.add(*name)?;
     }
     let scope = LocalScope::inside(&LocalScope::Outside, &own);
-    told(alloc, names, &reading(alloc, cells, &scope, looking)?)
+    let tops = cells_alone(alloc, names, cells)?;
+    told(
+        alloc,
+        names,
+        &reading(alloc, &tops, cells, &scope, looking)?,
+    )
+}
+
+// The top of a file that has cells alone.
+fn cells_alone<'a>(alloc: Global, names: &'a Names, cells: &[Ref]) -> Result<TopNames<'a>, NoMemory>
+    requires { length cells.now ≤ 256 }
+{
+    let mut tops = TopNames::new(alloc, names)?;
+    for (n, cell) in cells.iter().enumerate() {
+        tops.add(*cell, Known::Cell(n as u8))?;
+    }
+    Ok(tops)
 }
 
 /// What the content of a component's tag looks at, with which a component or its rows begin.
@@ -77,7 +95,7 @@ fn in_cells(
         return Err(Unanswered::TooLong);
     }
     let children = children_of(alloc, &[], tree.script.stmts.as_slice())?;
-    let tops = TopNames::new(alloc, names)?;
+    let tops = cells_alone(alloc, names, cells)?;
     let around = Around {
         alloc,
         tops: &tops,

@@ -91,7 +91,7 @@ fn push_code(line: &mut String, names: &Names, code: &Code) -> Result<(), AllocE
             line.push_str(" ()")?;
             push_codes(line, names, args.as_slice())
         }
-        CodeKind::Dispatcher { number, args } => {
+        CodeKind::Dispatcher { number, args, .. } => {
             push_codes(line, names, args.as_slice())?;
             write!(line, " dispatcher {number}")
         }

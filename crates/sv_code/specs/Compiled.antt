@@ -12,6 +12,7 @@ use Rattle.sv_code.specs.declared.program.ProgramFile.{ProgramFile}
 use Rattle.sv_code.specs.declared.program.Run.{Run}
 use Rattle.sv_lines.specs.Lines.{ascends}
 use Rattle.sv_code.specs.Numbers.{Number, Counts, Size, OfComponent, OfModule, size_at, is_component, IsThere, of_known, of_stmts, of_frags, of_function, of_tag, of_handler}
+use Rattle.sv_code.specs.Within.{ArePartsWithin}
 
 -- ---- what there is
 
@@ -81,10 +82,11 @@ pub record IsModule (files : List ProgramFile) (n : ℕ) : Type 0 where
   pub stands : slice_get files n ≡ Some file
   pub is_module : is_component (size_of file.code) ≡ false
 
--- a compiled program: its files, functions, tags and handlers name what is there
+-- a compiled program: its files, functions, tags and handlers name what is there, and its parts read nothing but what they look at
 pub record IsCompiled (program : Program) : Type 0 where
   pub files : All (IsFile program) program.files
   pub functions : All (λ f. AreInFile program (of_function f)) program.functions
   pub tags : All (λ t. AreInFile program (of_tag t)) program.tags
   pub handlers : All (λ h. AreInFile program (of_handler h)) program.handlers
   pub modules : All (IsModule program.files) program.modules
+  pub within : ArePartsWithin program

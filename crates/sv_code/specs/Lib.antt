@@ -1,2 +1,5 @@
 pub mod Numbers
 pub mod Compiled
+pub mod Names
+pub mod Parts
+pub mod Within

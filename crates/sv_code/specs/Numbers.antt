@@ -121,8 +121,8 @@ kind (CodeKind-F.List items) = joined items
 kind (CodeKind-F.Object fields) = joined fields
 kind (CodeKind-F.Template parts) = joined parts
 kind (CodeKind-F.Arrow number) = OfFunction number ∷ []
-kind (CodeKind-F.Assign target op value) = of_known target ++ value
-kind (CodeKind-F.Bump target up prefix) = of_known target
+kind (CodeKind-F.Assign target at op value) = of_known target ++ value
+kind (CodeKind-F.Bump target at up prefix) = of_known target
 kind (CodeKind-F.Chain first rest) = first ++ joined rest
 kind (CodeKind-F.Not of) = of
 kind (CodeKind-F.Minus of) = of
@@ -130,7 +130,7 @@ kind (CodeKind-F.Choose test first second) = test ++ (first ++ second)
 kind (CodeKind-F.Member of property) = of
 kind (CodeKind-F.Index of index) = of ++ index
 kind (CodeKind-F.Call of args) = of ++ joined args
-kind (CodeKind-F.Dispatcher number args) = joined args ++ OfFunction number ∷ []
+kind (CodeKind-F.Dispatcher number at args) = joined args ++ OfFunction number ∷ []
 
 abbrev pub code : Code-F (List Number) (List Number) (List Number) (List Number) (List Number) → List Number
 code c = c.kind

@@ -52,13 +52,17 @@ pub enum CodeKind {
     Template(Codes),
     /// An arrow, by its number among the functions of the program.
     Arrow(u32),
+    /// An assignment to what stands `at` a place.
     Assign {
         target: Known,
+        at: Span,
         op: AssignOp,
         value: Code,
     },
+    /// `++` or `--` of what stands `at` a place.
     Bump {
         target: Known,
+        at: Span,
         up: bool,
         prefix: bool,
     },
@@ -85,10 +89,11 @@ pub enum CodeKind {
         of: Code,
         args: Codes,
     },
-    /// A call of `createEventDispatcher`: the number of the dispatcher that it makes among the functions of the program. What it is
-    /// handed is evaluated and dropped.
+    /// A call of `createEventDispatcher`, which stands `at` a place: the number of the dispatcher that it makes among the functions of the
+    /// program. What it is handed is evaluated and dropped.
     Dispatcher {
         number: u32,
+        at: Span,
         args: Codes,
     },
 }

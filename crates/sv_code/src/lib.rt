@@ -26,7 +26,7 @@ pub use functions::{
     FunctionBody, Functions, WRITABLE,
 };
 pub use known::{BuiltIn, Known, Life, Method, Property};
-pub use parts::{CellList, Locals, Part, Reading};
+pub use parts::{Arrows, CellList, Locals, Part, Reading};
 pub use program::{
     Component, FileCode, Module, ModuleList, Program, ProgramFile, ProgramFiles, Prop, Props, Run,
     Runs, StoreCell, StoreCells,

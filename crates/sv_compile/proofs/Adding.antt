@@ -29,12 +29,12 @@ four_added a b c d t0 t1 t2 t3 t4 e1 e2 e3 e4 =
     e4 ∙ ap (more d) (e3 ∙ ap (more c) (e2 ∙ ap (more b) e1))
     ∙ ap (known_by t0) (sym (with_all_append t0.known a (b ++ (c ++ d)) ∙ with_all_append k b (c ++ d) ∙ with_all_append (with_all k b) c d))
 
-pub tops_are : (table : Table) (cells : List Ref) (given : List Given) (t0 t1 t2 t3 : Tops) → t0 ≡ record { known = []; words = words table } → t1 ≡ record t0 { known = with_all t0.known (cells_from 0 cells) }
+pub tops_are : (table : Table) (cells : List Ref) (given : List Given) (t0 t1 t2 t3 : Tops) → t0 ≡ record { names = table; known = []; words = words table } → t1 ≡ record t0 { known = with_all t0.known (cells_from 0 cells) }
     → t2 ≡ record t1 { known = with_all t1.known (map given_name given) } → t3 ≡ record t2 { known = with_all t2.known (all_built table) } → t3 ≡ tops table cells given
 tops_are table cells given t0 t1 t2 t3 e0 e1 e2 e3 =
     let own = cells_from 0 cells in
     let named = map given_name given in
     let built = all_built table in
-    let start : Tops = record { known = []; words = words table } in
+    let start : Tops = record { names = table; known = []; words = words table } in
     e3 ∙ ap (more built) (e2 ∙ ap (more named) (e1 ∙ ap (more own) e0))
     ∙ ap (known_by start) (sym (with_all_append [] own (named ++ built) ∙ with_all_append (with_all [] own) named built))

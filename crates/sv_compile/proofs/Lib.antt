@@ -6,6 +6,8 @@ pub mod OneProgram
 pub mod Reacting
 pub mod TagFiles
 pub mod Standing
+pub mod Topmost
+pub mod Within
 pub mod Compiled
 pub mod Wholes
 pub mod OneOrder

@@ -1,7 +1,7 @@
 -- What names stand for at the top of a file is there.
 use Rattle.std.proofs.Common.{◌≡◌, ℕ, zero, suc, ◌+◌, ◌<◌, ◌≤◌, Bool, true, false, List, [], ◌∷◌, ◌++◌, Option, None, Some, length, map, option_map, position, refl, sym, ap, subst, ◌∙◌, arith}
 use Rattle.std.specs.List.{All, filter_map, flat_map, cons_option}
-use Rattle.std.specs.Prelude.{find, ◌&&◌, is_some, slice_get, cond, if◌then◌else◌}
+use Rattle.std.specs.Prelude.{find, is_some, slice_get, cond, if◌then◌else◌}
 use Rattle.std.specs.Option.{option_to_list}
 use Rattle.std.proofs.lemmas.List.Elements.{All-nil, All-cons, All-append, All-push, All-head, All-tail}
 use Rattle.std.proofs.lemmas.List.Quantifiers.{position-Some}
@@ -39,7 +39,7 @@ use Rattle.sv_names.specs.Distinct.{same_ref}
 use Rattle.sv_compile.specs.declared.constants.Given.{Given}
 use Rattle.sv_compile.specs.declared.imports.TheConstants.{LIVES}
 use Rattle.sv_compile.specs.Constants.{same_name, all_constants, numbered_from, life_among, place_in, export_at, import_of, spec_given, imported_layer, imported, givens}
-use Rattle.sv_compile.specs.TopLevel.{cells_from, given_name, built, all_built, tops, cell_of, prop_of, holds, holder, store_at, stores_from}
+use Rattle.sv_compile.specs.TopLevel.{cells_from, given_name, built, all_built, tops, cell_of, prop_of, holder, store_at, stores_from}
 
 -- ---- how much files have
 
@@ -79,11 +79,11 @@ kept_some : {B : Type 0} (P : B → Type 0) (o : Option B) (list : List B) → (
 kept_some P None list h rest = rest
 kept_some P (Some x) list h rest = All-cons P x list (h x refl) rest
 
-filter_all : {A B : Type 0} (P : B → Type 0) (f : A → Option B) (list : List A) → ((a : A) (x : B) → f a ≡ Some x → P x) → All P (filter_map f list)
+pub filter_all : {A B : Type 0} (P : B → Type 0) (f : A → Option B) (list : List A) → ((a : A) (x : B) → f a ≡ Some x → P x) → All P (filter_map f list)
 filter_all P f [] h = All-nil P
 filter_all P f (a ∷ list) h = kept_some P (f a) (filter_map f list) (h a) (filter_all P f list h)
 
-flat_all : {A B : Type 0} (P : B → Type 0) (f : A → List B) (list : List A) → ((a : A) → All P (f a)) → All P (flat_map f list)
+pub flat_all : {A B : Type 0} (P : B → Type 0) (f : A → List B) (list : List A) → ((a : A) → All P (f a)) → All P (flat_map f list)
 flat_all P f [] h = All-nil P
 flat_all P f (a ∷ list) h = All-append P (f a) (flat_map f list) (h a) (flat_all P f list h)
 
@@ -265,7 +265,7 @@ module _ (sizes : List Size) (file : ℕ) where
 
   store_at_stands : (count : ℕ) (given : List Given) (n : ℕ) (name : Ref) → n < count → All (GivenStands sizes file) given → All (StoreStands count) (store_at given n name)
   store_at_stands count given n (Plain name) below h = All-nil (StoreStands count)
-  store_at_stands count given n (Store name) below h = held_stands count n (holder given name) below (λ g is. find_in (GivenStands sizes file) (λ g. same_name g.named.name name && holds g.known) given g h is)
+  store_at_stands count given n (Store name) below h = held_stands count n (holder given name) below (λ g is. find_in (GivenStands sizes file) (λ g. same_name g.named.name name) given g h is)
 
   pub stores_stand : (count : ℕ) (given : List Given) (n : ℕ) (cells : List Ref) → n + length cells ≤ count → All (GivenStands sizes file) given → All (StoreStands count) (stores_from given n cells)
   stores_stand count given n [] low h = All-nil (StoreStands count)

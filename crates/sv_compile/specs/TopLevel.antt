@@ -42,7 +42,7 @@ all_built table = built table STRING.now built_in.String ++ (built table BOOLEAN
 
 -- what names stand for at the top of a file with some cells, constants and imports
 abbrev pub tops : Table → List Ref → List Given → Tops
-tops table cells given = record { known = with_all [] (cells_from 0 cells ++ (map given_name given ++ all_built table)); words = words table }
+tops table cells given = record { names = table; known = with_all [] (cells_from 0 cells ++ (map given_name given ++ all_built table)); words = words table }
 
 -- ---- cells by what they are
 
@@ -76,14 +76,9 @@ reactive_cells cells stmts = numbers cells (filter (λ cell. is_plain cell && no
 
 -- ---- stores
 
-abbrev pub holds : Known → Bool
-holds (known.Constant n) = true
-holds (known.Export file n) = true
-holds _ = false
-
--- what may hold the store of a name
+-- what is to hold the store of a name: a constant, or whatever is imported under the name
 abbrev pub holder : List Given → Name → Option Given
-holder given name = find (λ g. same_name g.named.name name && holds g.known) given
+holder given name = find (λ g. same_name g.named.name name) given
 
 abbrev pub store_at : List Given → ℕ → Ref → List StoreCell
 store_at given n (Plain name) = []

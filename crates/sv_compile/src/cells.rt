@@ -16,7 +16,7 @@ use sv_lower::TopNames;
 use sv_names::{Distinct, name_of};
 
 /// The cell that a name stands for.
-pub(crate) fn cell_of(tops: &TopNames, name: Ref) -> Option<u8>
+pub(crate) fn cell_of(tops: &TopNames<'_>, name: Ref) -> Option<u8>
     ensures { result ≡ spec.cell_of (known_in tops.now.known name) }
 {
     match tops.get(name) {
@@ -26,7 +26,7 @@ pub(crate) fn cell_of(tops: &TopNames, name: Ref) -> Option<u8>
 }
 
 /// The props among some names.
-pub(crate) fn props_of(alloc: Global, tops: &TopNames, names: &[Ref]) -> Result<Props, NoMemory>
+pub(crate) fn props_of(alloc: Global, tops: &TopNames<'_>, names: &[Ref]) -> Result<Props, NoMemory>
     ensures { IfOk result (λ props. props ≡ filter_map (spec.prop_of tops.now) names.now) }
 {
     let mut props = Props::new(alloc);
@@ -127,20 +127,14 @@ fn add_store(stores: &mut StoreCells, given: &[Given], cell: u8, name: Ref) -> R
     }
 }
 
-// What may hold the store of a name.
+// What is to hold the store of a name: a constant, or whatever is imported under the name.
 fn holder(given: &[Given], name: Name) -> Option<Given>
     ensures { result ≡ spec.holder given.now name }
 {
     for found in given {
-        if found.named.name == name && holds(found.known) {
+        if found.named.name == name {
             return Some(*found);
         }
     }
     None
-}
-
-fn holds(known: Known) -> bool
-    ensures { result ≡ spec.holds known }
-{
-    matches!(known, Known::Constant(_) | Known::Export { .. })
 }

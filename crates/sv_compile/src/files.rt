@@ -71,7 +71,7 @@ struct Sheet {
 
 fn sheet_of(
     alloc: Global,
-    tops: &TopNames,
+    tops: &TopNames<'_>,
     given: &[Given],
     stmts: &[Stmt],
     told: &CheckedComponent,
@@ -137,7 +137,7 @@ fn filled(sheet: Sheet, script: CodeStmts, markup: Frags) -> CodeComponent
 fn compile_script(
     tables: &mut Tables,
     alloc: Global,
-    tops: &TopNames,
+    tops: &TopNames<'_>,
     stmts: &[Stmt],
 ) -> Result<CodeStmts, NoMemory>
     ensures { Makes result (spec.script_code tops.now stmts.now tables.old) tables.new }

@@ -12,12 +12,12 @@ use sv_code::{BuiltIn, Known};
 use sv_lower::TopNames;
 
 /// What names stand for at the top of a file with some cells, constants and imports. `NoMemory` comes only where memory runs out.
-pub(crate) fn tops(
+pub(crate) fn tops<'a>(
     alloc: Global,
-    names: &Names,
+    names: &'a Names,
     cells: &[Ref],
     given: &[Given],
-) -> Result<TopNames, NoMemory>
+) -> Result<TopNames<'a>, NoMemory>
     requires { length cells.now ≤ 256 }
     ensures { IfOk result (λ tops. tops ≡ spec.tops names.now cells.now given.now) }
 {
@@ -28,7 +28,7 @@ pub(crate) fn tops(
     Ok(tops)
 }
 
-fn add_cells(tops: &mut TopNames, cells: &[Ref]) -> Result<(), NoMemory>
+fn add_cells(tops: &mut TopNames<'_>, cells: &[Ref]) -> Result<(), NoMemory>
     requires { length cells.now ≤ 256 }
     ensures { OnOk result (tops.new ≡ record tops.old { known = with_all tops.old.known (spec.cells_from 0 cells.now) }) }
 {
@@ -38,7 +38,7 @@ fn add_cells(tops: &mut TopNames, cells: &[Ref]) -> Result<(), NoMemory>
     Ok(())
 }
 
-fn add_given(tops: &mut TopNames, given: &[Given]) -> Result<(), NoMemory>
+fn add_given(tops: &mut TopNames<'_>, given: &[Given]) -> Result<(), NoMemory>
     ensures { OnOk result (tops.new ≡ record tops.old { known = with_all tops.old.known (map spec.given_name given.now) }) }
 {
     for found in given {
@@ -47,7 +47,7 @@ fn add_given(tops: &mut TopNames, given: &[Given]) -> Result<(), NoMemory>
     Ok(())
 }
 
-fn add_built(tops: &mut TopNames, names: &Names) -> Result<(), NoMemory>
+fn add_built(tops: &mut TopNames<'_>, names: &Names) -> Result<(), NoMemory>
     ensures { OnOk result (tops.new ≡ record tops.old { known = with_all tops.old.known (spec.all_built names.now) }) }
 {
     add_text(tops, names, STRING, BuiltIn::String)?;
@@ -56,7 +56,12 @@ fn add_built(tops: &mut TopNames, names: &Names) -> Result<(), NoMemory>
     add_text(tops, names, CONSOLE, BuiltIn::Console)
 }
 
-fn add_text(tops: &mut TopNames, names: &Names, text: &str, what: BuiltIn) -> Result<(), NoMemory>
+fn add_text(
+    tops: &mut TopNames<'_>,
+    names: &Names,
+    text: &str,
+    what: BuiltIn,
+) -> Result<(), NoMemory>
     ensures { OnOk result (tops.new ≡ record tops.old { known = with_all tops.old.known (spec.built names.now text.now what) }) }
 {
     match names.find(text) {

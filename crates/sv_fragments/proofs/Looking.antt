@@ -9,6 +9,7 @@ use Rattle.sv_code.proofs.Compiled.{all_mono}
 use Rattle.sv_names.specs.Distinct.{has}
 use Rattle.sv_deps.specs.Looks.{Looked, among_from, gathered}
 use Rattle.sv_deps.specs.Reading.{number_if, numbers_from, numbers, reading}
+use Rattle.sv_lower.specs.Tops.{Tops}
 
 if_below : (b : Bool) (n top : ℕ) → n < top → All (λ k. k < top) (number_if b n)
 if_below true n top h = All-cons (λ k. k < top) n [] h (All-nil (λ k. k < top))
@@ -36,8 +37,8 @@ numbers_within cells names = all_mono (λ k. k < zero + length cells) (λ k. k <
 cells_there : (counts : Counts) (count : ℕ) (list : List ℕ) → count ≡ cells_in counts.home → All (λ k. k < count) list → All (IsThere counts) (map OfCell list)
 cells_there counts count list e h = All-map (IsThere counts) OfCell list (subst (λ c. All (λ k. k < c) list) e h)
 
-pub reading_there : (counts : Counts) (cells locals names : List Ref) → length cells ≡ cells_in counts.home → All (IsThere counts) (of_reading (reading cells locals names))
-reading_there counts cells locals names e = cells_there counts (length cells) (reading cells locals names).cells e (numbers_within cells _)
+pub reading_there : (counts : Counts) (tops : Tops) (cells locals names : List Ref) → length cells ≡ cells_in counts.home → All (IsThere counts) (of_reading (reading tops cells locals names))
+reading_there counts tops cells locals names e = cells_there counts (length cells) (reading tops cells locals names).cells e (numbers_within cells _)
 
 pub gathered_there : (counts : Counts) (count : ℕ) (looked : Looked) → count ≡ cells_in counts.home → All (IsThere counts) (of_reading (gathered count looked))
 gathered_there counts count looked e =

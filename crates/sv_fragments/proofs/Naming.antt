@@ -36,7 +36,7 @@ use Rattle.sv_code.specs.Numbers.{Number, OfFile, OfTag, OfHandler, Size, IsTher
 use Rattle.sv_lower.specs.Does.{just, of_one, of_two, each, given, followed, within}
 use Rattle.sv_lower.specs.Lower.{of_expr}
 use Rattle.sv_lower.proofs.Lowering.{of_expr_keeps}
-use Rattle.sv_lower.proofs.Keeping.{Kept, Keeps, just_keeps, one_by, one_keeps, two_keeps, followed_keeps, each_keeps, no_more, still_there}
+use Rattle.sv_lower.proofs.Keeping.{Kept, Keeps, just_keeps, one_keeps, two_keeps, followed_keeps, each_keeps, no_more, still_there}
 use Rattle.sv_deps.specs.Looks.{both, read, let_names, attrs as look_at, content as looks}
 use Rattle.sv_deps.specs.Reading.{reading}
 use Rattle.sv_scopes.specs.Attributes.{is_slotted}
@@ -121,10 +121,15 @@ module _ (sizes : List Size) (file : ℕ) (around : Around) (fits : Fits sizes f
 
   part_of_keeps : (names : List Ref) (e : Expr) → Keep of_part (part_of names e)
   unfolding part_of
-  part_of_keeps names e locals =
-      one_by (counted sizes file) (IsSound sizes) around locals of_code of_part (λ shown. record { span = e.span; code = shown; reads = reading around.cells locals names }) (lowered (of_expr e))
-      (λ s sound a h. All-append (IsThere (counted sizes file s)) (of_code a) (of_reading (reading around.cells locals names)) h (reading_there (counted sizes file s) around.cells locals names fits.cells))
-      (lowered_keeps sizes file around locals of_code (of_expr e) (of_expr_keeps sizes file around.tops fits.tops e locals))
+  part_of_keeps names e locals before sound =
+      let k = lowered_keeps sizes file around locals of_code (of_expr e) (of_expr_keeps sizes file around.tops fits.tops e locals) before sound in
+      let made = lowered (of_expr e) around locals before in
+      let reads = reading around.tops around.cells locals names in
+      record {
+        more = k.more;
+        there = All-append (IsThere (counted sizes file made.1)) (of_code made.0) (of_reading reads) k.there (reading_there (counted sizes file made.1) around.tops around.cells locals names fits.cells);
+        sound = k.sound;
+      }
 
   -- ---- attributes
 
@@ -263,11 +268,11 @@ module _ (sizes : List Size) (file : ℕ) (around : Around) (fits : Fits sizes f
   closed_keeps (Component name) span own f locals s sound h = tag_added (tag_of around span name own f) s sound (tag_there span name own f s h)
   closed_keeps (Slot name) span own f locals s sound h =
       let P = IsThere (counted sizes file s) in
-      let reads = reading around.cells locals (VIEW ∷ []) in
+      let reads = reading around.tops around.cells locals (VIEW ∷ []) in
       record {
         more = no_more (counted sizes file s);
         there = subst (All P) (sym (slot_numbers span name f.attrs f.content reads))
-            (regroup P (of_attrs f.attrs) (of_frags f.content) (of_reading reads) (All-append P (of_filled f) (of_reading reads) h (reading_there (counted sizes file s) around.cells locals (VIEW ∷ []) fits.cells)));
+            (regroup P (of_attrs f.attrs) (of_frags f.content) (of_reading reads) (All-append P (of_filled f) (of_reading reads) h (reading_there (counted sizes file s) around.tops around.cells locals (VIEW ∷ []) fits.cells)));
         sound = sound;
       }
 

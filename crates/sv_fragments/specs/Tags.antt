@@ -81,7 +81,7 @@ with_tag count tag tables = (frag.Tag (length tables.tags) (tag_looks count tag.
 unfoldable pub closed : Form → Span → List LetName → Filled → Builds Frag
 closed (Element name) span own f around locals = just (frag.Element span name f.attrs f.content) around locals
 closed (Component name) span own f around locals = with_tag (length around.cells) (tag_of around span name own f)
-closed (Slot name) span own f around locals = just (frag.Slot span name f.attrs f.content (reading around.cells locals (VIEW ∷ []))) around locals
+closed (Slot name) span own f around locals = just (frag.Slot span name f.attrs f.content (reading around.tops around.cells locals (VIEW ∷ []))) around locals
 
 unfoldable pub whole : Form → Span → List TagAttr → List Node → Builds Frag
 whole form span list children around locals = followed (filled form list children) (λ f. closed form span (own_lets form list) f around locals) around locals

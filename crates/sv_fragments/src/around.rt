@@ -12,7 +12,7 @@ use sv_names::NameMap;
 #[derive(Clone, Copy)]
 pub struct Around<'a> {
     pub alloc: Global,
-    pub tops: &'a TopNames,
+    pub tops: &'a TopNames<'a>,
     pub cells: &'a [Ref],
     pub children: &'a NameMap,
     pub ghost few: { length cells.now ≤ 256 },

@@ -8,10 +8,11 @@ ghost use Rattle.sv_lower.specs.Does.{Makes, given};
 ghost use Rattle.sv_fragments.specs.Expressions as spec;
 
 use crate::around::{Around, Tables};
+use crate::attributes::next_number;
 use std::alloc::Global;
 use sv_ast::{Expr, Ref, RefList};
 use sv_base::NoMemory;
-use sv_code::Part;
+use sv_code::{Arrows, Part};
 use sv_deps::reading;
 use sv_lower::{Inside, lower_expr};
 use sv_names::{Distinct, LocalScope, free_names};
@@ -29,7 +30,7 @@ pub(crate) fn part(
     part_of(tables, around, locals, names.as_slice(), e)
 }
 
-/// The part of an expression that looks at some names.
+/// The part of an expression that looks at some names. The arrows that are written in it are the functions that it adds.
 #[tactic(auto, unfolding(crate::specs::Expressions::part_of))]
 pub(crate) fn part_of(
     tables: &mut Tables,
@@ -45,11 +46,14 @@ pub(crate) fn part_of(
         tops: around.tops,
         locals,
     };
-    let reads = reading(around.alloc, around.cells, locals, names)?;
+    let reads = reading(around.alloc, around.tops, around.cells, locals, names)?;
+    let from = next_number(tables.functions.len())?;
     let code = lower_expr(&inside, &mut tables.functions, e)?;
+    let to = next_number(tables.functions.len())?;
     Ok(Part {
         span: e.span,
         code,
+        arrows: Arrows { from, to },
         reads,
     })
 }

@@ -182,10 +182,11 @@ fn close_slot(
     name: &Text,
     filled: Filled,
 ) -> Result<Frag, NoMemory>
-    ensures { IfOk result (λ made. made ≡ frag.Slot span name.now filled.attrs filled.content (spec_reading around.now.cells.now (names_of locals.now) (VIEW ∷ []))) }
+    ensures { IfOk result (λ made. made ≡ frag.Slot span name.now filled.attrs filled.content (spec_reading around.now.tops.now around.now.cells.now (names_of locals.now) (VIEW ∷ []))) }
 {
     let reads = reading(
         around.alloc,
+        around.tops,
         around.cells,
         locals,
         std::slice::from_ref(&VIEW),

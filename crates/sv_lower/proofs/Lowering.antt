@@ -1,5 +1,5 @@
 -- The code of a tree names what is there, where what names stand for at the top of its file does: an induction over trees, a line a form.
-use Rattle.std.proofs.Common.{◌≡◌, ℕ, ◌+◌, ◌<◌, Bool, true, false, List, [], ◌∷◌, ◌++◌, Option, None, Some, length, map, option_map, refl, sym, subst, arith, length-append}
+use Rattle.std.proofs.Common.{◌≡◌, ℕ, ◌+◌, ◌<◌, Bool, true, false, List, [], ◌∷◌, ◌++◌, Option, None, Some, length, map, option_map, refl, sym, subst, arith, append-nil, length-append, ◌∙◌}
 use Rattle.std.specs.List.{All}
 use Rattle.std.specs.Prelude.{if◌then◌else◌}
 use Rattle.std.specs.Option.{option_to_list}
@@ -44,7 +44,8 @@ use Rattle.sv_code.specs.declared.known.Known.TheVariants as known_form
 use Rattle.sv_code.specs.Numbers as numbers
 use Rattle.sv_code.specs.Numbers.{Number, OfFunction, OfCell, Size, Counts, size_at, functions_alone, IsThere, joined}
 use Rattle.sv_lower.specs.Does.{just, of_one, of_two, each, given, within}
-use Rattle.sv_lower.specs.Lower.{Made, Lowers, all, perhaps, trees, known, store_of, put, function, numbered, dispatcher, called, call, reads_dispatcher, for_code, of_expr, of_stmt, of_stmts, BodyMade, EntryMade, KindMade, FieldMade, StmtKindMade, ArmMade, DeclMade, ExprMade, LinkMade, StmtMade, body, entry, expr_kind, field, stmt_kind, arm, decl, expr, link, stmt, body_made, entry_made, kind_made, field_made, stmt_kind_made, arm_made, decl_made, expr_made, link_made, stmt_made, kind_code, entry_code, field_code_of, link_code, expr_code, function_body, decl_code, arm_code, stmt_kind_code, stmt_code_of}
+use Rattle.sv_lower.specs.Lower.{Made, Lowers, all, perhaps, trees, known, placed, store_of, put, function, numbered, dispatcher, called, call, reads_dispatcher, for_code, of_expr, of_stmt, of_stmts, BodyMade, EntryMade, KindMade, FieldMade, StmtKindMade, ArmMade, DeclMade, ExprMade, LinkMade, StmtMade, body, entry, expr_kind, field, stmt_kind, arm, decl, expr, link, stmt, body_made, entry_made, kind_made, field_made, stmt_kind_made, arm_made, decl_made, expr_made, link_made, stmt_made, kind_code, entry_code, field_code_of, link_code, expr_code, function_body, decl_code, arm_code, stmt_kind_code, stmt_code_of}
+use Rattle.sv_lower.specs.Places.{place, width}
 use Rattle.sv_lower.specs.Tops.{Tops, known_in, known_or, known_at, property}
 use Rattle.sv_lower.proofs.Keeping.{AtLeast, AreSomewhere, AreClosed, Kept, Keeps, counted_alone, still_there, somewhere_still, just_keeps, one_by, one_keeps, two_keeps, followed_keeps, each_keeps, three_keeps, four_keeps}
 use Rattle.sv_names.specs.Distinct.{has, same_ref}
@@ -107,6 +108,12 @@ module _ (sizes : List Size) (file : ℕ) (tops : Tops) (tops_there : TopsThere 
   known_keeps locals name before sound =
       record { more = record { functions = omega arith; tags = omega arith; handlers = omega arith; sizes = refl; home = refl }; there = name_there locals name (length before) sound.writable; sound = sound }
 
+  abbrev no_numbers : Span → Ns
+  no_numbers at = []
+
+  placed_keeps : (locals : List Ref) (at_end : Bool) (name : Ref) (span : Span) → KeepsIn no_numbers locals (placed at_end name span)
+  placed_keeps locals at_end name span = just_keeps Counted Closed tops locals no_numbers (place at_end (width tops.names name) span) refl
+
   -- ---- functions
 
   longer : (xs : List Function) (x : Function) → length (xs ++ x ∷ []) ≡ length xs + 1
@@ -154,7 +161,7 @@ module _ (sizes : List Size) (file : ℕ) (tops : Tops) (tops_there : TopsThere 
   tail_all P (x ∷ xs) ys h = tail_all P xs ys (All-tail P x (xs ++ ys) h)
 
   called_by : (b : Bool) (span : Span) (c : CodeT × List CodeT) (s : List Function) → Closed s → All (IsThere (Counted s)) (of_pair c)
-      → Kept Counted Closed numbers.of_kind s (if b then (code.Dispatcher (length s) c.1, s ++ dispatcher span ∷ []) else (code.Call c.0 c.1, s))
+      → Kept Counted Closed numbers.of_kind s (if b then (code.Dispatcher (length s) c.0.span c.1, s ++ dispatcher span ∷ []) else (code.Call c.0 c.1, s))
   unfolding CodeKind.roll-CodeKind denote.Hole.Carrier.roll
   called_by true span c s sound there =
       let d = dispatcher span in
@@ -162,7 +169,7 @@ module _ (sizes : List Size) (file : ℕ) (tops : Tops) (tops_there : TopsThere 
       let args = joined (map numbers.of_code c.1) in
       record {
         more = one_more s d;
-        there = subst (All (IsThere (Counted after))) (sym (fold-roll-CodeKind Ns Ns Ns Ns Ns numbers.field numbers.item numbers.kind numbers.code numbers.link (CodeKind-F.Dispatcher (length s) c.1)))
+        there = subst (All (IsThere (Counted after))) (sym (fold-roll-CodeKind Ns Ns Ns Ns Ns numbers.field numbers.item numbers.kind numbers.code numbers.link (CodeKind-F.Dispatcher (length s) c.0.span c.1)))
             (All-append (IsThere (Counted after)) args (OfFunction (length s) ∷ [])
             (still_there (Counted s) (Counted after) (one_more s d) args (tail_all (IsThere (Counted s)) (numbers.of_code c.0) args there)) (number_there d s));
         sound = put_closed d s sound (All-nil (IsThere (Counted s)));
@@ -345,8 +352,8 @@ module _ (sizes : List Size) (file : ℕ) (tops : Tops) (tops_there : TopsThere 
   kind_keeps (ExprKind-F.Obj fields) span locals = one_keeps Counted Closed tops locals (λ ys. joined (map numbers.of_field ys)) numbers.of_kind code.Object (each (all (map field_made (map (λ p. p.0) fields)))) (λ a. fold-roll-CodeKind Ns Ns Ns Ns Ns numbers.field numbers.item numbers.kind numbers.code numbers.link (CodeKind-F.Object a)) (each_of numbers.of_field field_made locals fields)
   kind_keeps (ExprKind-F.Template parts) span locals = one_keeps Counted Closed tops locals (λ ys. joined (map numbers.of_code ys)) numbers.of_kind code.Template (each (all (map expr_made (map (λ p. p.0) parts)))) (λ a. fold-roll-CodeKind Ns Ns Ns Ns Ns numbers.field numbers.item numbers.kind numbers.code numbers.link (CodeKind-F.Template a)) (each_of numbers.of_code expr_made locals parts)
   kind_keeps (ExprKind-F.Arrow params body) span locals = one_keeps Counted Closed tops locals (λ n. OfFunction n ∷ []) numbers.of_kind code.Arrow (numbered span params (body_parts (body_made body.0).tree) (body_made body.0).makes) (λ a. fold-roll-CodeKind Ns Ns Ns Ns Ns numbers.field numbers.item numbers.kind numbers.code numbers.link (CodeKind-F.Arrow a)) (numbered_keeps locals span params (body_parts (body_made body.0).tree) (body_made body.0).makes body.1)
-  kind_keeps (ExprKind-F.Assign target op value) span locals = two_keeps Counted Closed tops locals numbers.of_known numbers.of_code numbers.of_kind (λ t x. code.Assign t op x) (known target) (of_expr value.0) (λ a b. fold-roll-CodeKind Ns Ns Ns Ns Ns numbers.field numbers.item numbers.kind numbers.code numbers.link (CodeKind-F.Assign a op b)) (known_keeps locals target) (value.1 locals)
-  kind_keeps (ExprKind-F.Bump target up prefix) span locals = one_keeps Counted Closed tops locals numbers.of_known numbers.of_kind (λ t. code.Bump t up prefix) (known target) (λ a. fold-roll-CodeKind Ns Ns Ns Ns Ns numbers.field numbers.item numbers.kind numbers.code numbers.link (CodeKind-F.Bump a up prefix)) (known_keeps locals target)
+  kind_keeps (ExprKind-F.Assign target op value) span locals = three_keeps Counted Closed tops locals numbers.of_known no_numbers numbers.of_code numbers.of_kind (λ t at x. code.Assign t at op x) (known target) (placed false target span) (of_expr value.0) (λ a at b. fold-roll-CodeKind Ns Ns Ns Ns Ns numbers.field numbers.item numbers.kind numbers.code numbers.link (CodeKind-F.Assign a at op b)) (known_keeps locals target) (placed_keeps locals false target span) (value.1 locals)
+  kind_keeps (ExprKind-F.Bump target up prefix) span locals = two_keeps Counted Closed tops locals numbers.of_known no_numbers numbers.of_kind (λ t at. code.Bump t at up prefix) (known target) (placed prefix target span) (λ a at. fold-roll-CodeKind Ns Ns Ns Ns Ns numbers.field numbers.item numbers.kind numbers.code numbers.link (CodeKind-F.Bump a at up prefix) ∙ sym (append-nil (numbers.of_known a))) (known_keeps locals target) (placed_keeps locals prefix target span)
   kind_keeps (ExprKind-F.Chain first rest) span locals = two_keeps Counted Closed tops locals numbers.of_code (λ ys. joined (map numbers.of_link ys)) numbers.of_kind code.Chain (of_expr first.0) (each (all (map link_made (map (λ p. p.0) rest)))) (λ a b. fold-roll-CodeKind Ns Ns Ns Ns Ns numbers.field numbers.item numbers.kind numbers.code numbers.link (CodeKind-F.Chain a b)) (first.1 locals) (each_of numbers.of_link link_made locals rest)
   kind_keeps (ExprKind-F.Not of) span locals = one_keeps Counted Closed tops locals numbers.of_code numbers.of_kind code.Not (of_expr of.0) (λ a. fold-roll-CodeKind Ns Ns Ns Ns Ns numbers.field numbers.item numbers.kind numbers.code numbers.link (CodeKind-F.Not a)) (of.1 locals)
   kind_keeps (ExprKind-F.Minus of) span locals = one_keeps Counted Closed tops locals numbers.of_code numbers.of_kind code.Minus (of_expr of.0) (λ a. fold-roll-CodeKind Ns Ns Ns Ns Ns numbers.field numbers.item numbers.kind numbers.code numbers.link (CodeKind-F.Minus a)) (of.1 locals)

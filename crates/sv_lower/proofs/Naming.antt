@@ -6,6 +6,7 @@ use Rattle.indexmap.specs.IndexMap.{insert_entry}
 use Rattle.sv_ast.specs.contracts.names.RefPartialEq.TheImpl as ref_impl
 use Rattle.sv_ast.specs.declared.names.Ref.{Ref}
 use Rattle.sv_ast.specs.declared.names.Ref.TheVariants.{Plain, Store}
+use Rattle.sv_base.specs.Names.{Table}
 use Rattle.sv_code.specs.declared.known.Known.{Known}
 use Rattle.sv_names.specs.Distinct.{same_ref}
 use Rattle.sv_lower.specs.Tops.{Tops, known_in, with_known}
@@ -48,8 +49,8 @@ known_new known name x h = insert_new known name x h ∙ sym (with_known_is know
 pub known_kept : (known : List (Ref × Known)) (name : Ref) (x : Known) → is_some (lookup (ref_eq name) known) ≡ true → known ≡ with_known known (name, x)
 known_kept known name x h = sym (with_known_is known name x true h)
 
-abbrev pub tops_of : List (Ref × Known) → List Word → Tops
-tops_of known words = record { known = known; words = words }
+abbrev pub tops_of : Table → List (Ref × Known) → List Word → Tops
+tops_of names known words = record { names = names; known = known; words = words }
 
-pub same_tops : (a b : List (Ref × Known)) (v w : List Word) → a ≡ b → v ≡ w → tops_of a v ≡ tops_of b w
-same_tops a b v w e f = ap (λ z. tops_of z v) e ∙ ap (λ z. tops_of b z) f
+pub same_tops : (m n : Table) (a b : List (Ref × Known)) (v w : List Word) → m ≡ n → a ≡ b → v ≡ w → tops_of m a v ≡ tops_of n b w
+same_tops m n a b v w d e f = ap (λ z. tops_of z a v) d ∙ ap (λ z. tops_of n z v) e ∙ ap (λ z. tops_of n b z) f

@@ -1,5 +1,6 @@
 pub mod Does
 pub mod Tops
+pub mod Places
 pub mod Words
 pub mod Inside
 pub mod Lower

@@ -39,6 +39,7 @@ use Rattle.sv_code.specs.declared.known.Life.{Life as AnyLife}
 use Rattle.sv_code.specs.declared.known.Life.TheVariants.{CreateEventDispatcher}
 use Rattle.sv_code.specs.declared.known.Property.{Property}
 use Rattle.sv_lower.specs.Does.{Does, just, of_one, of_two, of_three, of_four, each, given, followed, within}
+use Rattle.sv_lower.specs.Places.{width, place}
 use Rattle.sv_lower.specs.Tops.{Tops, known_at, property}
 use Rattle.sv_names.specs.Locals.{name_of, locals_among}
 use Rattle.sv_names.specs.Uses.{Parts, named, together, scope_of, head_of, free_in, body_parts, stmt_parts}
@@ -97,6 +98,10 @@ StmtMade = Made Stmt (Lowers CodeStmt)
 abbrev pub known : Ref → Lowers Known
 known name tops locals before = (known_at tops locals name, before)
 
+-- the place of a name that an expression assigns: its front, or its end behind `++` and `--`
+abbrev pub placed : Bool → Ref → Span → Lowers Span
+placed at_end name span tops locals before = (place at_end (width tops.names name) span, before)
+
 -- what a word behind a point means
 abbrev pub worded : Name → Lowers Property
 worded word tops locals before = (property tops word, before)
@@ -147,7 +152,7 @@ dispatcher span = record { span = span; params = []; captured = []; declares = [
 -- a call: one of `createEventDispatcher` makes a dispatcher
 abbrev pub called : Span → Code × List Code → List Function → CodeKind × List Function
 called span c before =
-    if reads_dispatcher (out-CodeKind c.0.kind) then (code.Dispatcher (length before) c.1, before ++ dispatcher span ∷ []) else (code.Call c.0 c.1, before)
+    if reads_dispatcher (out-CodeKind c.0.kind) then (code.Dispatcher (length before) c.0.span c.1, before ++ dispatcher span ∷ []) else (code.Call c.0 c.1, before)
 
 abbrev pub call : Span → Lowers Code → Lowers (List Code) → Lowers CodeKind
 call span of args = followed (of_two (λ c list. (c, list)) of args) (called span)
@@ -195,8 +200,8 @@ kind_code (ExprKind-F.List items) span = of_one code.List (each (all items))
 kind_code (ExprKind-F.Obj fields) span = of_one code.Object (each (all fields))
 kind_code (ExprKind-F.Template parts) span = of_one code.Template (each (all parts))
 kind_code (ExprKind-F.Arrow params body) span = of_one code.Arrow (numbered span params (body_parts body.tree) body.makes)
-kind_code (ExprKind-F.Assign target op value) span = of_two (λ k x. code.Assign k op x) (known target) value.makes
-kind_code (ExprKind-F.Bump target up prefix) span = of_one (λ k. code.Bump k up prefix) (known target)
+kind_code (ExprKind-F.Assign target op value) span = of_three (λ k at x. code.Assign k at op x) (known target) (placed false target span) value.makes
+kind_code (ExprKind-F.Bump target up prefix) span = of_two (λ k at. code.Bump k at up prefix) (known target) (placed prefix target span)
 kind_code (ExprKind-F.Chain first rest) span = of_two code.Chain first.makes (each (all rest))
 kind_code (ExprKind-F.Not of) span = of_one code.Not of.makes
 kind_code (ExprKind-F.Minus of) span = of_one code.Minus of.makes

@@ -2,6 +2,7 @@
 -- table; a scope between a name and the top of the file hides what has its name there.
 use Rattle.std.specs.Prelude.{Bool, ◌==◌, List, [], ◌∷◌, ◌++◌, Option, None, Some, is_some, if◌then◌else◌}
 use Rattle.sv_ast.specs.declared.names.Ref.{Ref}
+use Rattle.sv_base.specs.Names.{Table}
 use Rattle.sv_base.specs.declared.names.Name.{Name}
 use Rattle.sv_code.specs.declared.known.Known.{Known}
 use Rattle.sv_code.specs.declared.known.Known.TheVariants.{Local}
@@ -11,8 +12,9 @@ use Rattle.sv_lower.specs.declared.members.Word.{Word}
 use Rattle.sv_names.specs.Distinct.{same_ref, has}
 use Rattle.sv_names.specs.Locals.{name_of}
 
--- names with what they stand for, and words behind a point with what they mean
+-- the texts of all names, names with what they stand for, and words behind a point with what they mean
 pub record Tops : Type 0 where
+  pub names : Table
   pub known : List (Ref × Known)
   pub words : List Word
 

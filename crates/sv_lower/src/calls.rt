@@ -23,8 +23,9 @@ pub(crate) fn called(
     if !reads_dispatcher(&of) {
         return Ok(CodeKind::Call { of, args });
     }
+    let at = of.span;
     let number = put(functions, dispatcher(alloc, span))?;
-    Ok(CodeKind::Dispatcher { number, args })
+    Ok(CodeKind::Dispatcher { number, at, args })
 }
 
 fn reads_dispatcher(of: &Code) -> bool

@@ -70,11 +70,13 @@ fn lower_kind(
         )?)),
         ExprKind::Assign { target, op, value } => Ok(CodeKind::Assign {
             target: known_at(inside, *target),
+            at: inside.tops.place(false, *target, span),
             op: *op,
             value: lower_expr(inside, functions, value)?,
         }),
         ExprKind::Bump { target, up, prefix } => Ok(CodeKind::Bump {
             target: known_at(inside, *target),
+            at: inside.tops.place(*prefix, *target, span),
             up: *up,
             prefix: *prefix,
         }),

@@ -13,7 +13,7 @@ use sv_names::{LocalScope, is_local, name_of};
 #[derive(Clone, Copy)]
 pub struct Inside<'a> {
     pub alloc: Global,
-    pub tops: &'a TopNames,
+    pub tops: &'a TopNames<'a>,
     pub locals: &'a LocalScope<'a>,
 }
 

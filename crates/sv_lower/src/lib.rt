@@ -9,6 +9,7 @@ mod imports;
 mod inside;
 mod lists;
 mod members;
+mod places;
 mod statements;
 mod tops;
 

@@ -1,0 +1,12 @@
+pub mod Bools
+pub mod Forms
+pub mod Layers
+pub mod Making
+pub mod Scopes
+pub mod Reading
+pub mod Whole
+pub mod Scripts
+pub mod Looking
+pub mod Parts
+pub mod Keeping
+pub mod Markup

@@ -1,0 +1,13 @@
+// Laws of the definitions, each on a function that does nothing.
+ghost use Rattle.sv_within.specs.Staying.{ArePartsMadeWithin, IsMarkupMadeWithin};
+
+/// The code of an expression of markup reads nothing but what the names that stand free in it look at, in the arrows that are written in it
+/// too.
+pub fn part_is_within()
+    ensures { ArePartsMadeWithin }
+{}
+
+/// Each part of the markup of a component reads nothing but what it looks at, those of its component tags and handlers among them.
+pub fn markup_is_within()
+    ensures { IsMarkupMadeWithin }
+{}
