@@ -247,11 +247,6 @@ impl Scene {
                 Some(inst) => self.count(inst.number),
                 None => self.word("nobody"),
             },
-            "enqueue" => {
-                let inst = self.inst(rest);
-                self.world.enqueue(inst);
-                self.silent()
-            }
             _ => turns::happens(self, verb, rest),
         }
     }

@@ -91,14 +91,14 @@ calm-enqueued s n k = ⊎_elim
       subscribed = each_altered (λ m o. (c id : ℕ) → is_subscriber s m c id ≡ has_subscription o c id) queued s.lives n k.subscribed (λ i _ p. p);
     }
 
+pub calm-stored : (s : States) (p : Subscriber) (v : Val) → IsCalm s → IsCalm (cell_stored s p v)
+calm-stored s p v k = calm-altered (λ i. record i { cells = cells.assigned i.cells p.cell v }) s p.inst k (λ i q. seen-assigned i.cells p.cell v q) (λ i. refl) (λ i. refl) (λ i. refl)
+
 pub calm-handing : (p : Subscriber) (v : Val) (next : States → States) (s : States) → ((t : States) → IsCalm t → IsCalm (next t)) → IsCalm s → IsCalm (handing p v next s)
 calm-handing p v next s keeps k = ⊎_elim
-    (λ b. rw b (calm-enqueued (next (cell_stored s p v)) p.inst (keeps (cell_stored s p v) stored)))
+    (λ b. rw b (calm-enqueued (next (cell_stored s p v)) p.inst (keeps (cell_stored s p v) (calm-stored s p v k))))
     (λ b. rw b k)
     (cases_Bool (changes_in (live s p.inst) p.cell v))
-  where
-    stored : IsCalm (cell_stored s p v)
-    stored = calm-altered (λ i. record i { cells = cells.assigned i.cells p.cell v }) s p.inst k (λ i q. seen-assigned i.cells p.cell v q) (λ i. refl) (λ i. refl) (λ i. refl)
 
 pub calm-taken : (s : States) (p : Subscriber) (v : Val) → IsCalm s → IsCalm (taken s p v)
 calm-taken s p v k = calm-handing p v (λ t. t) s (λ t q. q) k
@@ -107,7 +107,7 @@ calm-told : (ps : List Subscriber) (v : Val) (s : States) → IsCalm s → IsCal
 calm-told [] v s k = k
 calm-told (p ∷ ps) v s k = calm-told ps v (taken s p v) (calm-taken s p v k)
 
-calm-value : (s : States) (id : ℕ) (v : Val) → IsCalm s → IsCalm (record s { stores = with_value s.stores id v })
+pub calm-value : (s : States) (id : ℕ) (v : Val) → IsCalm s → IsCalm (record s { stores = with_value s.stores id v })
 calm-value s id v k = record {
   seen = k.seen;
   queued = k.queued;

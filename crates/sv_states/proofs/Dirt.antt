@@ -12,6 +12,7 @@ use Rattle.sv_states.specs.Assignment.{changes_in, cell_stored, handing, taken, 
 use Rattle.sv_states.specs.Sound.{has_changed, IsSound}
 use Rattle.sv_states.proofs.Altering.{at-altered_same, at-altered_other}
 use Rattle.sv_states.proofs.Calm.{IsCalm, enqueued-idle, enqueued-joins}
+use Rattle.sv_states.proofs.Due.{AllDue}
 
 -- an instance with a changed cell waits
 abbrev pub IsWaiter : Option Instance → Type 0
@@ -91,8 +92,8 @@ pub wait-written : (ps : List Subscriber) (store : Option ℕ) (v : Val) (E : �
 wait-written [] store v E s all = wait-end store v E s all
 wait-written (p ∷ ps) store v E s all = wait-handing p v (written ps store v) (wait-written ps store v) E s all
 
-pub sound_of : (s : States) → IsCalm s → AllWait (λ _. ⊥) s → IsSound s
-sound_of s k all = record { seen = k.seen; queued = k.queued; shown = k.shown; dirty = λ n c h. all n (λ e. e) c h; subscribed = k.subscribed }
+pub sound_of : (s : States) → IsCalm s → AllWait (λ _. ⊥) s → AllDue s → IsSound s
+sound_of s k all due = record { seen = k.seen; queued = k.queued; shown = k.shown; dirty = λ n c h. all n (λ e. e) c h; due = due; subscribed = k.subscribed }
 
 pub waiters_of : (s : States) → IsSound s → AllWait (λ _. ⊥) s
 waiters_of s k n free c h = k.dirty n c h

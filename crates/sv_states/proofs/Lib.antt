@@ -8,6 +8,7 @@ pub mod Ending
 pub mod Subscribing
 pub mod Later
 pub mod Calm
+pub mod Due
 pub mod Dirt
 pub mod Sounding
 pub mod Keeping

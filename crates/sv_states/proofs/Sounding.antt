@@ -1,5 +1,5 @@
 -- What holds at every moment, after each change.
-use Rattle.std.proofs.Common.{◌≡◌, ◌≢◌, ℕ, zero, suc, List, [], ◌∷◌, ◌++◌, length, Option, Some, None, refl, sym, ap, ◌∙◌, arith, Bool, true, false, cond, slice_set, is_some, nat_eq, ⊎_elim, inl, subst}
+use Rattle.std.proofs.Common.{◌≡◌, ◌≢◌, ℕ, zero, suc, List, [], ◌∷◌, ◌++◌, length, Option, Some, None, refl, sym, ap, ◌∙◌, arith, Bool, true, false, cond, slice_set, is_some, nat_eq, ⊎_elim, subst}
 use Rattle.std.specs.Prelude.{not, ◌&&◌, ◌||◌}
 use Rattle.std.specs.List.{list_any, filter}
 use Rattle.std.proofs.lemmas.Bool.{cases_eq, cases_lt, cases_Bool, and_parts, not-true, eqb-true, eqb-false, eq-eqb, ne_eqb, true≢false}
@@ -20,21 +20,19 @@ use Rattle.sv_states.specs.Waiting.{is_waiting, has_shown, enqueued, without, ti
 use Rattle.sv_states.specs.Assignment.{Way, sent, sent_if, with_bound, bound_up, way_of, taken}
 use Rattle.sv_states.specs.Change.{with_setup, added, removed, declared, with_view, viewed, with_store, given, with_subscription, subscribed_over, subscribed_to}
 use Rattle.sv_states.specs.Prepared.{IsNew}
-use Rattle.sv_states.specs.Sound.{IsLater, IsSeen, is_to, has_subscription, is_subscriber, IsSound}
+use Rattle.sv_states.specs.Sound.{DirtyCell, IsLater, IsSeen, is_to, has_subscription, is_subscriber, IsSound}
 use Rattle.sv_states.proofs.Altering.{at-altered_same, at-altered_none, at-altered_other, option_cases}
 use Rattle.sv_states.proofs.Later.{seen-touched, seen-declared, seen-snapped, now-declared}
 use Rattle.sv_states.proofs.Times.{without-absent, times-without_same, times-without_other}
 use Rattle.sv_states.proofs.Calm.{each_altered, calm_of, calm-altered, calm-enqueued, calm-taken, calm-written}
+use Rattle.sv_states.proofs.Due.{due-altered, due-enqueued, due-taken, due-written, dirty-touched, touched-dirty}
 use Rattle.sv_states.proofs.Dirt.{IsWaiter, wait-enqueued, wait-altered, wait-taken, wait-written, sound_of, waiters_of}
 
-pub sound-enqueued : (s : States) (n : ℕ) → IsSound s → IsSound (enqueued s n)
-sound-enqueued s n k = sound_of (enqueued s n) (calm-enqueued s n (calm_of s k)) (wait-enqueued (λ _. ⊥) s n (λ m free. waiters_of s k m (λ e. free (inl e))))
-
 pub sound-sent : (s : States) (w : Way) (v : Val) → IsSound s → IsSound (sent w v s)
-sound-sent s w v k = sound_of (sent w v s) (calm-written w.cells w.store v s (calm_of s k)) (wait-written w.cells w.store v (λ _. ⊥) s (waiters_of s k))
+sound-sent s w v k = sound_of (sent w v s) (calm-written w.cells w.store v s (calm_of s k)) (wait-written w.cells w.store v (λ _. ⊥) s (waiters_of s k)) (due-written w.cells w.store v s (calm_of s k) k.due)
 
 pub sound-taken : (s : States) (p : Subscriber) (v : Val) → IsSound s → IsSound (taken s p v)
-sound-taken s p v k = sound_of (taken s p v) (calm-taken s p v (calm_of s k)) (wait-taken (λ _. ⊥) s p v (waiters_of s k))
+sound-taken s p v k = sound_of (taken s p v) (calm-taken s p v (calm_of s k)) (wait-taken (λ _. ⊥) s p v (waiters_of s k)) (due-taken s p v (calm_of s k) k.due)
 
 -- an instance whose cells, subscriptions and place in the queue stay
 pub sound-inert : (f : Instance → Instance) (s : States) (n : ℕ) → ((i : Instance) → (f i).cells ≡ i.cells) → ((i : Instance) → (f i).queued ≡ i.queued) → ((i : Instance) → (f i).subscriptions ≡ i.subscriptions)
@@ -42,6 +40,7 @@ pub sound-inert : (f : Instance → Instance) (s : States) (n : ℕ) → ((i : I
 sound-inert f s n cells' idle subscriptions k = sound_of (with_instance f s n)
     (calm-altered f s n (calm_of s k) (λ i p old is c. subst (λ x. IsLater (cells.cell_at old c) (cells.cell_at x.now c)) (sym (cells' i)) (p old (sym (ap (λ x. x.seen) (cells' i)) ∙ is) c)) idle (λ i. ap (λ x. is_some x.seen) (cells' i)) subscriptions)
     (λ m free. each_altered (λ _ o. IsWaiter o) f s.lives n (λ j. waiters_of s k j (λ e. e)) (λ i _ p c h. idle i ∙ p c (sym (ap (λ x. is_some x.seen && cells.is_dirty x c) (cells' i)) ∙ h)) m)
+    (due-altered f s n k.due (λ i _ d h. ap (λ x. cells.is_dirty x d) (cells' i) ∙ h) idle)
 
 pub sound-setup : (s : States) (n : ℕ) (setup : Setup) → IsSound s → IsSound (with_setup s n setup)
 sound-setup s n setup k = sound-inert (λ i. record i { setup = setup }) s n (λ i. refl) (λ i. refl) (λ i. refl) k
@@ -53,13 +52,22 @@ sound-sent_if (Some v) w s k = sound-sent s w v k
 pub sound-bound : (s : States) (n : ℕ) (b : Bound) → IsSound s → IsSound (bound_up s n b)
 sound-bound s n b k = sound-sent_if (value_in (live s n) b.cell) (way_of s b.owner b.target) (with_instance (with_bound b) s n) (sound-inert (with_bound b) s n (λ i. refl) (λ i. refl) (λ i. refl) k)
 
+-- the cell that stands for the owner's view changed
+viewed_dirty : (s : States) (n c : ℕ) (view : View) → IsSound s → has_cell (live s n) c ≡ true → DirtyCell (live (with_instance (with_view c view) s n) n)
+viewed_dirty s n c view k b = ⊎_elim
+    (λ none. absurd (true≢false (sym b ∙ ap (λ o. has_cell o c) none)))
+    (λ some. subst DirtyCell (sym (at-altered_same (with_view c view) s.lives n some.0 some.1))
+    (record { cell = c; dirty = touched-dirty some.0.cells c (subst IsSeen some.1 (k.seen n)) (ap (λ o. has_cell o c) (sym some.1) ∙ b) }))
+    (option_cases (live s n))
+
 pub sound-viewed : (s : States) (n c : ℕ) (view : View) → IsSound s → IsSound (viewed s n c view)
-sound-viewed s n c view k = ⊎_elim (λ b. rw b there) (λ b. rw b k) (cases_Bool (has_cell (live s n) c))
+sound-viewed s n c view k = ⊎_elim (λ b. rw b (there b)) (λ b. rw b k) (cases_Bool (has_cell (live s n) c))
   where
-    there : IsSound (enqueued (with_instance (with_view c view) s n) n)
-    there = sound_of (enqueued (with_instance (with_view c view) s n) n)
+    there : has_cell (live s n) c ≡ true → IsSound (enqueued (with_instance (with_view c view) s n) n)
+    there b = sound_of (enqueued (with_instance (with_view c view) s n) n)
         (calm-enqueued (with_instance (with_view c view) s n) n (calm-altered (with_view c view) s n (calm_of s k) (λ i p. seen-touched i.cells c p) (λ i. refl) (λ i. refl) (λ i. refl)))
         (wait-enqueued (λ _. ⊥) (with_instance (with_view c view) s n) n (wait-altered (λ _. ⊥) (with_view c view) s n (waiters_of s k)))
+        (due-enqueued (with_instance (with_view c view) s n) n (due-altered (with_view c view) s n k.due (λ i here d. dirty-touched i.cells c (subst IsSeen here (k.seen n)) d) (λ i. refl)) (viewed_dirty s n c view k b))
 
 -- a declaration is no change
 waiter-declared : (i : Instance) (c : ℕ) (v : Val) → IsWaiter (Some i) → IsWaiter (Some (record i { cells = cells.declared i.cells c v }))
@@ -69,12 +77,20 @@ waiter-declared i c v p d h = p d (lemma i.cells.seen refl h)
     lemma None e g = absurd (true≢false (sym g ∙ ap (λ x. is_some x && cells.is_dirty_since x (cells.declared i.cells c v).now d) e))
     lemma (Some old) e g = ap (λ l. is_some i.cells.seen && cells.is_dirty_since i.cells.seen l d) (sym (now-declared i.cells c v old e)) ∙ g
 
+dirty-declared : (i : Instance) (c : ℕ) (v : Val) (d : ℕ) → cells.is_dirty i.cells d ≡ true → cells.is_dirty (cells.declared i.cells c v) d ≡ true
+dirty-declared i c v d h = over i.cells.seen refl h
+  where
+    over : (o : Option (List (Option Cell))) → i.cells.seen ≡ o → cells.is_dirty_since o i.cells.now d ≡ true → cells.is_dirty_since o (cells.declared i.cells c v).now d ≡ true
+    over None e g = refl
+    over (Some old) e g = ap (λ l. cells.is_dirty_since (Some old) l d) (now-declared i.cells c v old e) ∙ g
+
 pub sound-declared : (s : States) (p : Subscriber) (v : Val) → IsSound s → IsSound (declared s p v)
 sound-declared s p v k =
     let f : Instance → Instance = λ i. record i { cells = cells.declared i.cells p.cell v } in
     sound_of (declared s p v)
     (calm-altered f s p.inst (calm_of s k) (λ i q. seen-declared i.cells p.cell v q) (λ i. refl) (λ i. refl) (λ i. refl))
     (λ m free. each_altered (λ _ o. IsWaiter o) f s.lives p.inst (λ j. waiters_of s k j (λ e. e)) (λ i _ q. waiter-declared i p.cell v q) m)
+    (due-altered f s p.inst k.due (λ i here d h. dirty-declared i p.cell v d h) (λ i. refl))
 
 -- a snapshot makes all cells clean
 waiter-shown : (i : Instance) → IsWaiter (Some (shown i))
@@ -86,6 +102,7 @@ sound-snapped s n k = record {
   queued = left;
   shown = each_altered (λ _ o. is_waiting o ≡ true → has_shown o ≡ true) shown s.lives n k.shown (λ i _ _ _. refl);
   dirty = λ m c h. each_altered (λ _ o. IsWaiter o) shown s.lives n (λ j. waiters_of s k j (λ e. e)) (λ i _ _. waiter-shown i) m c h;
+  due = each_altered (λ _ o. is_waiting o ≡ true → DirtyCell o) shown s.lives n k.due (λ i _ _ w. absurd (true≢false (sym w)));
   subscribed = each_altered (λ m o. (c id : ℕ) → is_subscriber s m c id ≡ has_subscription o c id) shown s.lives n k.subscribed (λ i _ p. p);
 }
   where
@@ -116,6 +133,7 @@ sound-store s v k = record {
   queued = k.queued;
   shown = k.shown;
   dirty = k.dirty;
+  due = k.due;
   subscribed = λ n c id. ap (list_any (same_subscriber (record { inst = n; cell = c }))) (subscribers-made s.stores v id) ∙ k.subscribed n c id;
 }
 
@@ -136,6 +154,7 @@ sound-added s i new k = record {
   queued = each_added (λ m o. times s.queue m ≡ cond (is_waiting o) 1 0) s.lives i k.queued (λ p. p ∙ ap (λ w. cond w 1 0) (sym new.idle));
   shown = each_added (λ _ o. is_waiting o ≡ true → has_shown o ≡ true) s.lives i k.shown (λ _ w. absurd (true≢false (sym w ∙ new.idle)));
   dirty = λ m c h. each_added (λ _ o. IsWaiter o) s.lives i (λ j. waiters_of s k j (λ e. e)) (λ _ d g. absurd (true≢false (sym g ∙ ap (λ x. is_some x && cells.is_dirty_since x i.cells.now d) new.unshown))) m c h;
+  due = each_added (λ _ o. is_waiting o ≡ true → DirtyCell o) s.lives i k.due (λ _ w. absurd (true≢false (sym w ∙ new.idle)));
   subscribed = each_added (λ m o. (c id : ℕ) → is_subscriber s m c id ≡ has_subscription o c id) s.lives i k.subscribed (λ p c id. p c id ∙ sym (ap (list_any (is_to c id)) new.unsubscribed));
 }
 
@@ -178,6 +197,7 @@ sound-removed s n k = record {
   queued = each_gone (λ m o. times (without s.queue n) m ≡ cond (is_waiting o) 1 0) s.lives n (λ m other. times-without_other s.queue n m other ∙ k.queued m) gone;
   shown = each_gone (λ _ o. is_waiting o ≡ true → has_shown o ≡ true) s.lives n (λ m _. k.shown m) (λ h. h);
   dirty = λ m c h. each_gone (λ _ o. IsWaiter o) s.lives n (λ j _. waiters_of s k j (λ e. e)) (λ _ g. g) m c h;
+  due = each_gone (λ _ o. is_waiting o ≡ true → DirtyCell o) s.lives n (λ m _. k.due m) (λ w. absurd (true≢false (sym w)));
   subscribed = each_gone (λ m o. (c id : ℕ) → is_subscriber (removed s n) m c id ≡ has_subscription o c id) s.lives n
       (λ m other c id. ap (list_any (same_subscriber (record { inst = m; cell = c }))) (subscribers-dropped s.stores n id) ∙ any-other n m c (subscribers_at s.stores id) other ∙ k.subscribed m c id)
       (λ c id. ap (list_any (same_subscriber (record { inst = n; cell = c }))) (subscribers-dropped s.stores n id) ∙ any-gone n c (subscribers_at s.stores id));
@@ -240,6 +260,7 @@ module _ (s : States) (p : Subscriber) (id : ℕ) (v : Val) (i : Instance) (ther
     queued = each_altered (λ m o. times s.queue m ≡ cond (is_waiting o) 1 0) put s.lives p.inst k.queued (λ _ _ q. q);
     shown = each_altered (λ _ o. is_waiting o ≡ true → has_shown o ≡ true) put s.lives p.inst k.shown (λ _ _ q. q);
     dirty = λ m c h. each_altered (λ _ o. IsWaiter o) put s.lives p.inst (λ j. waiters_of s k j (λ e. e)) (λ _ _ q. q) m c h;
+    due = each_altered (λ _ o. is_waiting o ≡ true → DirtyCell o) put s.lives p.inst k.due (λ i _ q w. let d = q w in record { cell = d.cell; dirty = d.dirty });
     subscribed = λ m c other. ⊎_elim
         (λ same. subst (λ j. list_any (same_subscriber (record { inst = j; cell = c })) (subscribers_at stores other) ≡ has_subscription (at (altered put s.lives p.inst) j) c other) (sym same)
         (told-same c other ∙ sym (ap (λ o. has_subscription o c other) (at-altered_same put s.lives p.inst i there))))

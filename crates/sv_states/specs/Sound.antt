@@ -6,13 +6,18 @@ use Rattle.sv_store.specs.Stores.{same_subscriber, subscribers_at}
 use Rattle.sv_instance.specs.Cells as cells
 use Rattle.sv_instance.specs.declared.instance.Instance.{Instance}
 use Rattle.sv_instance.specs.declared.subscriptions.Subscription.{Subscription}
-use Rattle.sv_states.specs.States.{States, live}
+use Rattle.sv_states.specs.States.{States, live, is_dirty_in}
 use Rattle.sv_states.specs.Waiting.{is_waiting, has_shown, times}
 
 -- a cell's count never falls, and where it is the same, the cell is
 pub record IsLater (old new : Option Cell) : Type 0 where
   pub least : cells.count_of old ≤ cells.count_of new
   pub same : cells.count_of old ≡ cells.count_of new → old ≡ new
+
+-- a cell of an instance whose count isn't the one at the last snapshot
+pub record DirtyCell (o : Option Instance) : Type 0 where
+  pub cell : ℕ
+  pub dirty : is_dirty_in o cell ≡ true
 
 -- the present cells are later than those at the last snapshot
 abbrev pub IsSeen : Option Instance → Type 0
@@ -41,7 +46,8 @@ pub record IsSound (s : States) : Type 0 where
   -- the queue names live instances, each once, that have had a snapshot
   pub queued : (n : ℕ) → times s.queue n ≡ (if is_waiting (live s n) then 1 else 0)
   pub shown : (n : ℕ) → is_waiting (live s n) ≡ true → has_shown (live s n) ≡ true
-  -- who has a changed cell is queued
+  -- who has a changed cell is queued, and nobody else
   pub dirty : (n c : ℕ) → has_changed (live s n) c ≡ true → is_waiting (live s n) ≡ true
+  pub due : (n : ℕ) → is_waiting (live s n) ≡ true → DirtyCell (live s n)
   -- the instances and the stores tell the same subscriptions
   pub subscribed : (n c id : ℕ) → is_subscriber s n c id ≡ has_subscription (live s n) c id

@@ -10,7 +10,7 @@ ghost use Rattle.sv_instance.specs.Instance.{born};
 ghost use Rattle.sv_instance.specs.Binds.{bound_of};
 ghost use Rattle.sv_instance.specs.Dirty.{is_among};
 ghost use Rattle.sv_states.specs.States.{live, setup_of, cell_count, is_dirty_in};
-ghost use Rattle.sv_states.specs.Waiting.{enqueued, snapped};
+ghost use Rattle.sv_states.specs.Waiting.{snapped};
 ghost use Rattle.sv_states.specs.Assignment.{assigned, store_set, bound_up};
 ghost use Rattle.sv_states.specs.Change.{depth_above, place_below, added, removed, declared, viewed, with_store, subscribed_to};
 ghost use Rattle.sv_states.specs.Context.{context_of};
@@ -75,8 +75,8 @@ impl States {
         Ok(States { alloc, board })
     }
 
-    /// What holds at every moment: who has a changed cell is queued, the queue names live instances that have had a snapshot,
-    /// each once, a cell that changed as often as at the last snapshot is what it was, and the instances and the stores tell
+    /// What holds at every moment: who has a changed cell is queued, and nobody else; the queue names live instances that have had a
+    /// snapshot, each once; a cell that changed as often as at the last snapshot is what it was; and the instances and the stores tell
     /// the same subscriptions, each once.
     pub fn facts(&self)
         ensures sound { IsSound self.now }
@@ -230,14 +230,6 @@ impl States {
     {
         let board = &mut self.board;
         board.set_owner_view(at, view)
-    }
-
-    /// Puts an instance at the end of the queue. Where it has had no snapshot or stands there, nothing changes.
-    pub fn enqueue(&mut self, inst: Inst)
-        ensures { self.new ≡ enqueued self.old inst.number }
-    {
-        let board = &mut self.board;
-        board.enqueue(inst);
     }
 
     /// Which cells of an instance changed since its last snapshot, or all where there was none. The snapshot is now, and the

@@ -6,7 +6,7 @@ ghost use Rattle.sv_instance.specs.Place.{inst_number, standing_of};
 ghost use Rattle.sv_instance.specs.Instance.{born};
 ghost use Rattle.sv_instance.specs.Dirty.{is_among};
 ghost use Rattle.sv_states.specs.States.{live, cell_in, cell_count, is_dirty_in};
-ghost use Rattle.sv_states.specs.Waiting.{enqueued, snapped};
+ghost use Rattle.sv_states.specs.Waiting.{snapped};
 ghost use Rattle.sv_states.specs.Assignment.{assigned, store_set, bound_up};
 ghost use Rattle.sv_states.specs.Change.{depth_above, place_below, added, removed};
 ghost use Rattle.sv_world.specs.World.{no_world, view_before, presented_before, presented};
@@ -142,13 +142,6 @@ impl World {
                 target,
             },
         )
-    }
-
-    /// Puts an instance at the end of the queue. Where it has had no snapshot or stands there, nothing changes.
-    pub fn enqueue(&mut self, inst: Inst)
-        ensures { self.new ≡ record self.old { states = enqueued self.old.states inst.number } }
-    {
-        self.states.enqueue(inst);
     }
 
     /// Which cells of an instance changed since its last snapshot, or all where there was none. The snapshot is now, and the
