@@ -15,14 +15,13 @@ use Rattle.sv_code.specs.declared.functions.CodeStmt.{CodeStmt, fold_out-CodeStm
 use Rattle.sv_code.specs.declared.functions.CodeStmtKind
 use Rattle.sv_code.specs.declared.functions.CodeStmtKind.{CodeStmtKind as AnyStmt, CodeStmtKind-F, fold-roll-CodeStmtKind}
 use Rattle.sv_ops.specs.Answer.{list_made, object_made}
-use Rattle.sv_ops.specs.Texts.{template}
 use Rattle.sv_value.specs.Value.{Val}
 use Rattle.sv_world.specs.declared.world.World.{World}
 use Rattle.sv_meaning.specs.Context.{ground_of, calls_of, expr_in, value_in, item_in, field_in, link_in, kind_in, run_in, doing_in}
 use Rattle.sv_meaning.specs.Env.{Env, opened}
 use Rattle.sv_meaning.specs.Outcome.{Meaning, Flow, and_then, doing, counted, answered}
 use Rattle.sv_meaning.specs.Statements.{Doing, Counts, Arm, done, scoped, in_order, stmt_kind_step, arm_step, stmt_step}
-use Rattle.sv_meaning.specs.Values.{Expr, Link, Ratio, Puts, plain, chain, dividing, last_division, parts_after, all_values, call_step, dispatcher_step, field_step, item_step, kind_step, code_step, link_step}
+use Rattle.sv_meaning.specs.Values.{Expr, Link, Ratio, Puts, plain, chain, dividing, last_division, parts_after, template_step, call_step, dispatcher_step, field_step, item_step, kind_step, code_step, link_step}
 use Rattle.sv_meaning.specs.declared.context.Context.{Context}
 
 -- an expression by its form, which takes a step
@@ -45,7 +44,7 @@ object_is c k ps s i =
     ap (λ z. kind_in c z s) i
     ∙ ap (λ m. m s) (fold-roll-CodeKind (Puts (List ℕ × Val)) (Puts Val) (Span → Expr) Expr Link field_step item_step (kind_step (ground_of c) (calls_of c) c.owner.number) (code_step (ground_of c) (calls_of c) c.owner.number) link_step (CodeKind-F.Object ps))
 
-pub template_is : (c : Context) (k : AnyKind) (es : List Code) (s : Span) → k ≡ CodeKind.Template es → kind_in c k s ≡ plain s (λ env w. and_then (all_values (map (expr_in c) es) env w) (λ vs. doing (answered s (template vs))))
+pub template_is : (c : Context) (k : AnyKind) (es : List Code) (s : Span) → k ≡ CodeKind.Template es → kind_in c k s ≡ plain s (template_step s (map (expr_in c) es))
 unfolding CodeKind.roll-CodeKind denote.Hole.Carrier.roll
 template_is c k es s i =
     ap (λ z. kind_in c z s) i
@@ -57,11 +56,11 @@ called_is c k of args s i =
     ap (λ z. kind_in c z s) i
     ∙ ap (λ m. m s) (fold-roll-CodeKind (Puts (List ℕ × Val)) (Puts Val) (Span → Expr) Expr Link field_step item_step (kind_step (ground_of c) (calls_of c) c.owner.number) (code_step (ground_of c) (calls_of c) c.owner.number) link_step (CodeKind-F.Call of args))
 
-pub dispatcher_is : (c : Context) (k : AnyKind) (n : ℕ) (args : List Code) (s : Span) → k ≡ CodeKind.Dispatcher n args → kind_in c k s ≡ plain s (dispatcher_step n c.owner.number s (map (expr_in c) args))
+pub dispatcher_is : (c : Context) (k : AnyKind) (n : ℕ) (at : Span) (args : List Code) (s : Span) → k ≡ CodeKind.Dispatcher n at args → kind_in c k s ≡ plain s (dispatcher_step n c.owner.number at s (map (expr_in c) args))
 unfolding CodeKind.roll-CodeKind denote.Hole.Carrier.roll
-dispatcher_is c k n args s i =
+dispatcher_is c k n at args s i =
     ap (λ z. kind_in c z s) i
-    ∙ ap (λ m. m s) (fold-roll-CodeKind (Puts (List ℕ × Val)) (Puts Val) (Span → Expr) Expr Link field_step item_step (kind_step (ground_of c) (calls_of c) c.owner.number) (code_step (ground_of c) (calls_of c) c.owner.number) link_step (CodeKind-F.Dispatcher n args))
+    ∙ ap (λ m. m s) (fold-roll-CodeKind (Puts (List ℕ × Val)) (Puts Val) (Span → Expr) Expr Link field_step item_step (kind_step (ground_of c) (calls_of c) c.owner.number) (code_step (ground_of c) (calls_of c) c.owner.number) link_step (CodeKind-F.Dispatcher n at args))
 
 -- a statement by its form
 pub run_is : (c : Context) (s : CodeStmt) → run_in c s ≡ done (doing_in c s.kind) s.span

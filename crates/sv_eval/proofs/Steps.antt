@@ -23,7 +23,7 @@ use Rattle.sv_meaning.specs.Env.{Env}
 use Rattle.sv_meaning.specs.Functions.{Teller, caller, entered, env_of, returned}
 use Rattle.sv_meaning.specs.Gives.{Gives, EndsAs, flow_of}
 use Rattle.sv_meaning.specs.Outcome.{Ending, Ends, Fails, Outcome, Done, Failed, Meaning, Deed, Flow, Next, Continued, and_then, then_do, left, kept, doing, counted, counted_in, with_steps, answered}
-use Rattle.sv_meaning.specs.Sight.{Ground, is_there}
+use Rattle.sv_meaning.specs.Sight.{Ground, ground_in, is_there}
 use Rattle.sv_meaning.specs.Statements.{turns, tested, value_or, Doing, Silent, Counts as Takes, takes_step, does, done, run_all}
 use Rattle.sv_meaning.specs.Values.{Expr, Link, On, all_values, with_args, call_step, built_call, method_call, chain, chained, divide}
 use Rattle.sv_meaning.specs.declared.declarations.End.{End}
@@ -89,7 +89,7 @@ divide_is t s at m ls n env env' env'' env''' w w' w'' w''' w'''' x a b c d e f 
 
 -- ---- calls of functions
 
-pub call_is : (tell : Teller) (g : Ground) (n m c o : ℕ) (held : Vals) (vs args : List Val) (s : Span) (w : World) (f : Function) → n ≡ suc m → is_there g.sight o w ≡ true → items held ≡ vs → slice_get g.program.functions c ≡ Some f → call_value (caller tell g n) s (function c o held) args w ≡ entered f.body tell g (caller tell g m) o (env_of f vs args) args s w
+pub call_is : (tell : Teller) (g : Ground) (n m c o : ℕ) (held : Vals) (vs args : List Val) (s : Span) (w : World) (f : Function) → n ≡ suc m → is_there g.sight o w ≡ true → items held ≡ vs → slice_get g.program.functions c ≡ Some f → call_value (caller tell g n) s (function c o held) args w ≡ entered f.body tell (ground_in g c) (caller tell (ground_in g c) m) o (env_of f vs args) args s w
 call_is tell g n m c o held vs args s w f k t h e = ap (λ i. call_value (caller tell g i) s (function c o held) args w) k ∙ rw (t, e, h) refl
 
 pub block_is : (b : FunctionBody) (stmts : List CodeStmt) (tell : Teller) (g : Ground) (call : Caller) (o : ℕ) (env : Env) (args : List Val) (s : Span) (w : World) → b ≡ body.Block stmts → entered b tell g call o env args s w ≡ then_do (left (run_all g call o stmts env w)) (λ f. Ends (returned f))

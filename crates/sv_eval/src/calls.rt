@@ -477,6 +477,7 @@ pub fn call_value(
         return Ok(Value::Undefined);
     };
     let inside = Context {
+        is_own: context.arrows.contains(function.code()),
         owner,
         room: context.room - 1,
         ..*context

@@ -13,7 +13,7 @@ use crate::lookups::{handler_of, listens_to};
 use crate::values::eval;
 use std::alloc::Global;
 use sv_base::{Span, Text};
-use sv_code::{Code, FragAttr, Part, Program};
+use sv_code::{FragAttr, Part, Program};
 use sv_meaning::{
     CALL_LIMIT, Context, EvalError, Hearer, Locals, answer, attrs_of, event_of, fault, first,
     hearer_of, listener_view, part_world, second, source_of,
@@ -158,7 +158,7 @@ fn tell_part(
     let Some(view) = listener_view(context.alloc, world, hearer)? else {
         return Ok(());
     };
-    let value = eval_part(context.alloc, context.program, &view, &part.code)?;
+    let value = eval_part(context.alloc, context.program, &view, part)?;
     call_listener(context, world, &value, object, part.span)
 }
 
@@ -186,15 +186,15 @@ fn call_listener(
     }
 }
 
-/// The value of an expression of markup on a view. It has steps and open calls of its own, and leaves nothing behind.
+/// The value of a part on a view. It has steps and open calls of its own, and leaves nothing behind.
 #[cycle(eval)]
 pub fn eval_part(
     alloc: Global,
     program: &Program,
     view: &View,
-    code: &Code,
+    part: &Part,
 ) -> Result<Value, EvalError>
-    ensures { Evaluates result (part_value program.now view.now code.now) }
+    ensures { Evaluates result (part_value program.now view.now part.now) }
 {
     let mut world = part_world(alloc)?;
     let mut locals = Locals::shown(alloc, view.locals().as_slice())?;
@@ -202,8 +202,10 @@ pub fn eval_part(
         alloc,
         program,
         sight: Some(view),
+        arrows: part.arrows,
+        is_own: true,
         owner: view.inst(),
         room: CALL_LIMIT,
     };
-    eval(&context, &mut world, &mut locals, code)
+    eval(&context, &mut world, &mut locals, &part.code)
 }

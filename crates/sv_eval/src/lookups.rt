@@ -10,7 +10,7 @@ ghost use Rattle.sv_meaning.specs.Statements.{takes_step};
 ghost use Rattle.sv_meaning.specs.Values.{rounds};
 ghost use Rattle.sv_meaning.specs.declared.context.Context.{Context as Contexts};
 
-use sv_ast::Op;
+use sv_ast::{AssignOp, Op};
 use sv_base::{NoMemory, Span, Text};
 use sv_code::{
     BuiltIn, Code, CodeKind, CodeLink, CodeStmtKind, FragAttr, Handler, Known, Method, Program,
@@ -24,6 +24,35 @@ use sv_world::World;
 pub(crate) struct Call<'a> {
     pub span: Span,
     pub of: &'a Code,
+    pub args: &'a [Code],
+}
+
+/// An assignment: its place, what is assigned, where that stands, the operator, and the operand.
+#[derive(Clone, Copy)]
+pub(crate) struct Assign<'a> {
+    pub span: Span,
+    pub target: Known,
+    pub at: Span,
+    pub op: AssignOp,
+    pub value: &'a Code,
+}
+
+/// A `++` or `--`: its place, what is counted, where that stands, whether up, and whether the operator stands in front.
+#[derive(Clone, Copy)]
+pub(crate) struct Bump {
+    pub span: Span,
+    pub target: Known,
+    pub at: Span,
+    pub up: bool,
+    pub prefix: bool,
+}
+
+/// A call of `createEventDispatcher`: its place, where the name stands, the number of the dispatcher, and the arguments.
+#[derive(Clone, Copy)]
+pub(crate) struct MakeDispatcher<'a> {
+    pub span: Span,
+    pub at: Span,
+    pub number: u32,
     pub args: &'a [Code],
 }
 

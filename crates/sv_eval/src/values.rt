@@ -5,17 +5,18 @@ ghost use Rattle.sv_ops.specs.Operators.{stops};
 ghost use Rattle.sv_meaning.specs.Context.{ground_of, expr_in, value_in, kind_in, link_in, valued_in};
 ghost use Rattle.sv_meaning.specs.Gives.{Gives};
 ghost use Rattle.sv_meaning.specs.Statements.{value_or, tested};
-ghost use Rattle.sv_meaning.specs.Values.{all_values, assign_step, bump_step, name_span, indexed, dispatcher_step, chained, linked};
+ghost use Rattle.sv_meaning.specs.Values.{all_values, all_texts, template_step, assign_step, bump_step, indexed, dispatcher_step, chained, linked};
 
 use crate::calls::eval_call;
 use crate::literals::{eval_fields, eval_items};
-use crate::lookups::Call;
+use crate::lookups::{Assign, Bump, Call, MakeDispatcher};
 use sv_ast::AssignOp;
-use sv_base::Span;
-use sv_code::{Code, CodeKind, CodeLink, Known};
-use sv_meaning::{Context, EvalError, Locals, answer, count};
+use sv_base::{Span, Text};
+use sv_code::{Code, CodeKind, CodeLink};
+use sv_meaning::{Context, EvalError, Locals, answer, count, text_at};
 use sv_ops::{
-    assigned, binary, bumped, function_of, index, list_of, negated, object_of, stops, template,
+    assigned, binary, bumped, function_of, index, joined, list_of, negated, object_of, stops,
+    text_value,
 };
 use sv_value::{Value, truthy};
 use sv_world::World;
@@ -51,7 +52,7 @@ fn eval_kind(
         CodeKind::Null => Ok(Value::Null),
         CodeKind::Bool(truth) => Ok(Value::Bool(*truth)),
         CodeKind::Num(number) => Ok(Value::Num(*number)),
-        CodeKind::Text(text) => Ok(Value::Text(text.share()?)),
+        CodeKind::Text(text) => answer(world, text_value(text), span),
         CodeKind::Read(name) => context.read(world, locals, *name, span),
         CodeKind::List(parts) => {
             let made = eval_items(context, world, locals, span, parts.as_slice())?;
@@ -62,19 +63,42 @@ fn eval_kind(
             answer(world, object_of(context.alloc, made), span)
         }
         CodeKind::Template(parts) => {
-            let values = eval_all(context, world, locals, parts.as_slice())?;
-            answer(world, template(context.alloc, &values), span)
+            eval_template(context, world, locals, span, parts.as_slice())
         }
         CodeKind::Arrow(code) => {
             let made = context.make_arrow(locals, *code);
             answer(world, made, span)
         }
-        CodeKind::Assign { target, op, value } => eval_assign(
-            context, world, locals, span, *target, *op, value,
-        ),
-        CodeKind::Bump { target, up, prefix } => eval_bump(
-            context, world, locals, span, *target, *up, *prefix,
-        ),
+        CodeKind::Assign {
+            target,
+            at,
+            op,
+            value,
+        } => {
+            let assign = Assign {
+                span,
+                target: *target,
+                at: *at,
+                op: *op,
+                value,
+            };
+            eval_assign(context, world, locals, assign)
+        }
+        CodeKind::Bump {
+            target,
+            at,
+            up,
+            prefix,
+        } => {
+            let bump = Bump {
+                span,
+                target: *target,
+                at: *at,
+                up: *up,
+                prefix: *prefix,
+            };
+            eval_bump(context, world, locals, bump)
+        }
         CodeKind::Chain { first, rest } => {
             let value = eval(context, world, locals, first)?;
             eval_links(context, world, locals, span, value, rest.as_slice())
@@ -101,14 +125,15 @@ fn eval_kind(
             let args = args.as_slice();
             eval_call(context, world, locals, Call { span, of, args })
         }
-        CodeKind::Dispatcher { number, args } => eval_dispatcher(
-            context,
-            world,
-            locals,
-            span,
-            *number,
-            args.as_slice(),
-        ),
+        CodeKind::Dispatcher { number, at, args } => {
+            let call = MakeDispatcher {
+                span,
+                at: *at,
+                number: *number,
+                args: args.as_slice(),
+            };
+            eval_dispatcher(context, world, locals, call)
+        }
     }
 }
 
@@ -129,6 +154,42 @@ pub(crate) fn eval_all(
         values.push(value)?;
     }
     Ok(values)
+}
+
+// What a template gives.
+#[cycle(eval)]
+fn eval_template(
+    context: &Context,
+    world: &mut World,
+    locals: &mut Locals,
+    span: Span,
+    parts: &[Code],
+) -> Result<Value, EvalError>
+    ensures means { Gives view_of result locals.new world.new (template_step span (map (expr_in context.now) parts.now) locals.old world.old) }
+    ensures fewer { world.new.turn.steps ≤ world.old.turn.steps }
+{
+    let texts = eval_texts(context, world, locals, span, parts)?;
+    answer(world, joined(context.alloc, "", &texts), span)
+}
+
+// The texts of the parts of a template at a place. Each is made before the next part is evaluated.
+#[cycle(eval)]
+fn eval_texts(
+    context: &Context,
+    world: &mut World,
+    locals: &mut Locals,
+    span: Span,
+    parts: &[Code],
+) -> Result<Vec<Text>, EvalError>
+    ensures means { Gives (λ ts. ts.items) result locals.new world.new (all_texts span (map (expr_in context.now) parts.now) locals.old world.old) }
+    ensures fewer { world.new.turn.steps ≤ world.old.turn.steps }
+{
+    let mut texts = Vec::new(context.alloc);
+    for part in parts {
+        let value = eval(context, world, locals, part)?;
+        texts.push(text_at(context.alloc, &value, span)?)?;
+    }
+    Ok(texts)
 }
 
 /// What an expression gives, undefined where there is none.
@@ -173,22 +234,20 @@ fn eval_assign(
     context: &Context,
     world: &mut World,
     locals: &mut Locals,
-    span: Span,
-    target: Known,
-    op: AssignOp,
-    value: &Code,
+    assign: Assign,
 ) -> Result<Value, EvalError>
-    ensures means { Gives view_of result locals.new world.new (assign_step op (ground_of context.now) context.now.owner.number target span (value_in context.now value.now) locals.old world.old) }
+    ensures means { Gives view_of result locals.new world.new (assign_step assign.entry.op (ground_of context.now) context.now.owner.number assign.entry.target assign.entry.at assign.entry.span (value_in context.now assign.entry.value.now) locals.old world.old) }
     ensures fewer { world.new.turn.steps ≤ world.old.turn.steps }
 {
-    if matches!(op, AssignOp::Set) {
-        let value = eval(context, world, locals, value)?;
-        return context.set(world, locals, target, value, span);
+    if matches!(assign.op, AssignOp::Set) {
+        let value = eval(context, world, locals, assign.value)?;
+        return context.set(world, locals, assign.target, value, assign.at);
     }
-    let old = context.read(world, locals, target, span)?;
-    let operand = eval(context, world, locals, value)?;
-    let new = answer(world, assigned(context.alloc, op, &old, operand), span)?;
-    context.set(world, locals, target, new, span)
+    let old = context.read(world, locals, assign.target, assign.at)?;
+    let operand = eval(context, world, locals, assign.value)?;
+    let made = assigned(context.alloc, assign.op, &old, operand);
+    let new = answer(world, made, assign.span)?;
+    context.set(world, locals, assign.target, new, assign.at)
 }
 
 #[cycle(eval)]
@@ -214,23 +273,21 @@ fn eval_dispatcher(
     context: &Context,
     world: &mut World,
     locals: &mut Locals,
-    span: Span,
-    number: u32,
-    args: &[Code],
+    call: MakeDispatcher,
 ) -> Result<Value, EvalError>
-    ensures means { Gives view_of result locals.new world.new (dispatcher_step number context.now.owner.number span (map (expr_in context.now) args.now) locals.old world.old) }
+    ensures means { Gives view_of result locals.new world.new (dispatcher_step call.entry.number context.now.owner.number call.entry.at call.entry.span (map (expr_in context.now) call.entry.args.now) locals.old world.old) }
     ensures fewer { world.new.turn.steps ≤ world.old.turn.steps }
 {
-    count(world, span)?;
-    let args = eval_all(context, world, locals, args)?;
+    count(world, call.at)?;
+    let args = eval_all(context, world, locals, call.args)?;
     drop(args);
     let made = function_of(
         context.alloc,
-        number,
+        call.number,
         context.owner,
         Vec::new(context.alloc),
     );
-    answer(world, made, span)
+    answer(world, made, call.span)
 }
 
 /// What the operators of a chain make of a value.
@@ -278,31 +335,14 @@ fn eval_bump(
     context: &Context,
     world: &mut World,
     locals: &mut Locals,
-    span: Span,
-    target: Known,
-    up: bool,
-    prefix: bool,
+    bump: Bump,
 ) -> Result<Value, EvalError>
-    ensures means { Gives view_of result locals.new world.new (bump_step (ground_of context.now) context.now.owner.number target up prefix span locals.old world.old) }
+    ensures means { Gives view_of result locals.new world.new (bump_step (ground_of context.now) context.now.owner.number bump.target bump.at bump.up bump.prefix bump.span locals.old world.old) }
     ensures fewer { world.new.turn.steps ≤ world.old.turn.steps }
 {
-    let old = context.read(world, locals, target, name_span(prefix, span))?;
-    let new = answer(world, bumped(up, &old), span)?;
-    let value = context.set(world, locals, target, new.share()?, span)?;
+    let old = context.read(world, locals, bump.target, bump.at)?;
+    let new = answer(world, bumped(bump.up, &old), bump.span)?;
+    let value = context.set(world, locals, bump.target, new.share()?, bump.at)?;
     drop(value);
-    Ok(if prefix { new } else { old })
-}
-
-// Where the name stands that is bumped: behind an operator in front of it.
-fn name_span(prefix: bool, span: Span) -> Span
-    ensures { result ≡ name_span prefix span }
-{
-    if prefix {
-        Span {
-            from: span.from.saturating_add(2).min(span.to),
-            ..span
-        }
-    } else {
-        span
-    }
+    Ok(if bump.prefix { new } else { old })
 }

@@ -31,7 +31,7 @@ use Rattle.sv_meaning.specs.Listeners.{heard_value, heard_result, heard_on, hear
 use Rattle.sv_meaning.specs.Outcome.{Fails, Meaning, Deed, given}
 use Rattle.sv_meaning.specs.Parts.{part_value}
 use Rattle.sv_meaning.specs.Runs.{world_ground, calls, each_in_turn, function_set, functions_set, given_for, prop_value, prop_declared, top_kind, top, script, modules_opened, run_module, run_modules, cell_opened, cells_opened, view_opened, imported_subscribed, opened, run_component, run_top, is_due, inner, run_at, run_due, run_reactive, source_of, called}
-use Rattle.sv_meaning.specs.Sight.{Ground, is_there}
+use Rattle.sv_meaning.specs.Sight.{Ground, ground_in, is_there}
 use Rattle.sv_meaning.specs.Statements.{subscribe}
 use Rattle.sv_meaning.specs.declared.limits.TheConstants.{CALL_LIMIT}
 use Rattle.sv_ops.specs.Answer.{object_made}
@@ -66,25 +66,26 @@ module _ {P : States → Type 0} (stays : Stays P) where
   dispatch_leaves s (function c o held) d k = fails_leaves NotText s
   dispatch_leaves s (store id) d k = fails_leaves NotText s
 
-  module _ (tell : Teller) (tells : TellerKeeps P tell) (g : Ground) where
-    entered_leaves : (call : Caller) → CallerKeeps P call → (b : FunctionBody) (o : ℕ) (env : Env) (args : List Val) (s : Span) → Leaves P (entered b tell g call o env args s)
-    entered_leaves call k (body.Value e) o env args s = left_leaves env (expr_keeps stays g call k o e)
-    entered_leaves call k (body.Block stmts) o env args s = then_leaves (left_leaves env (in_order_keeps stays _ (runs_keep stays g call k o stmts))) (λ f. ends_leaves (returned f))
-    entered_leaves call k body.Dispatch o env args s = dispatch_leaves s (first args) (second args) (λ name e. tells call k o name e)
-    entered_leaves call k body.Writable o env args s = make_leaves stays (first args)
+  module _ (tell : Teller) (tells : TellerKeeps P tell) where
+    entered_leaves : (g : Ground) (call : Caller) → CallerKeeps P call → (b : FunctionBody) (o : ℕ) (env : Env) (args : List Val) (s : Span) → Leaves P (entered b tell g call o env args s)
+    entered_leaves g call k (body.Value e) o env args s = left_leaves env (expr_keeps stays g call k o e)
+    entered_leaves g call k (body.Block stmts) o env args s = then_leaves (left_leaves env (in_order_keeps stays _ (runs_keep stays g call k o stmts))) (λ f. ends_leaves (returned f))
+    entered_leaves g call k body.Dispatch o env args s = dispatch_leaves s (first args) (second args) (λ name e. tells call k o name e)
+    entered_leaves g call k body.Writable o env args s = make_leaves stays (first args)
 
-    found_leaves : (call : Caller) → CallerKeeps P call → (f : Option Function) (o : ℕ) (held args : List Val) (s : Span) → Leaves P (found f tell g call o held args s)
-    found_leaves call k None o held args s = ends_leaves undefined
-    found_leaves call k (Some f) o held args s = entered_leaves call k f.body o (env_of f held args) args s
+    found_leaves : (g : Ground) (call : Caller) → CallerKeeps P call → (f : Option Function) (o : ℕ) (held args : List Val) (s : Span) → Leaves P (found f tell g call o held args s)
+    found_leaves g call k None o held args s = ends_leaves undefined
+    found_leaves g call k (Some f) o held args s = entered_leaves g call k f.body o (env_of f held args) args s
 
     there_left : (b : Bool) (s : Span) (d : Deed Val) (w : World) → Leaves P d → P w.states → Left P (if_there b s d w)
     there_left true s d w k h = k.held w h
     there_left false s d w k h = h
 
     -- a call, with so many more that may be open
-    pub caller_keeps : (room : ℕ) → CallerKeeps P (caller tell g room)
-    caller_keeps zero c o held args s = record { held = λ w h. there_left (is_there g.sight o w) s (Fails CallDepth s) w (fails_leaves CallDepth s) h }
-    caller_keeps (suc room) c o held args s = record { held = λ w h. there_left (is_there g.sight o w) s _ w (found_leaves (caller tell g room) (caller_keeps room) (slice_get g.program.functions c) o (items held) args s) h }
+    pub caller_keeps : (g : Ground) (room : ℕ) → CallerKeeps P (caller tell g room)
+    caller_keeps g zero c o held args s = record { held = λ w h. there_left (is_there g.sight o w) s (Fails CallDepth s) w (fails_leaves CallDepth s) h }
+    caller_keeps g (suc room) c o held args s =
+        record { held = λ w h. there_left (is_there g.sight o w) s _ w (found_leaves (ground_in g c) (caller tell (ground_in g c) room) (caller_keeps (ground_in g c) room) (slice_get g.program.functions c) o (items held) args s) h }
 
   -- ---- listeners of tags
 
@@ -106,7 +107,7 @@ module _ {P : States → Type 0} (stays : Stays P) where
 
     heard_on_leaves : (o : Option View) (part : Part) (e : Val) → Leaves P (heard_on o p call part e)
     heard_on_leaves None part e = ends_leaves tt
-    heard_on_leaves (Some v) part e = heard_result_leaves part.span (part_value p v part.code) e
+    heard_on_leaves (Some v) part e = heard_result_leaves part.span (part_value p v part) e
 
     abbrev OnwardKeeps : (ℕ → Val → Deed (Unit {0})) → Type 0
     OnwardKeeps onward = (owner : ℕ) (e : Val) → Leaves P (onward owner e)

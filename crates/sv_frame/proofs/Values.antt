@@ -28,12 +28,12 @@ use Rattle.sv_meaning.specs.Calls.{Caller, call_value, first, second, is_functio
 use Rattle.sv_meaning.specs.Env.{Env, look}
 use Rattle.sv_meaning.specs.Outcome.{Fails, Meaning, Deed, and_then}
 use Rattle.sv_meaning.specs.Sight.{Ground, cell_seen, constant_seen, modules_seen, read, local_set, cell_set, set}
-use Rattle.sv_meaning.specs.Values.{Puts, Link, Callee, Plain, Lives, Stores, Converts, On, Ratio, Expr, plain, all_after, all_values, with_args, word_of, member_of, put_all, put_one, item_step, field_step, parts_after, link_step, linked, chained, chain, dividing, last_division, arrow, updated, assign_step, name_span, bump_step, call_at, keyed, life_call, convert, rounds, is_one, divide, math_call, ratio_or, divided_or, built_call, field_call, value_call, named_call, method_call, call_step, callee_of, kind_step, code_step, expr_of, kind_of, item_of, field_of, link_of, value}
-use Rattle.sv_ops.specs.Answer.{list_made, object_made, function_made}
+use Rattle.sv_meaning.specs.Values.{Puts, Link, Callee, Plain, Lives, Stores, Converts, On, Ratio, Expr, plain, all_after, all_values, with_args, texts_after, template_step, word_of, member_of, put_all, put_one, item_step, field_step, parts_after, link_step, linked, chained, chain, dividing, last_division, arrow, updated, assign_step, bump_step, call_at, keyed, life_call, convert, rounds, is_one, divide, math_call, ratio_or, divided_or, built_call, field_call, value_call, named_call, method_call, call_step, callee_of, kind_step, code_step, expr_of, kind_of, item_of, field_of, link_of, value}
+use Rattle.sv_ops.specs.Answer.{spelled, text_made, list_made, object_made, function_made}
 use Rattle.sv_ops.specs.Members.{Spread, Takes, TakesNone, spread, spread_fields, or_undefined, index}
 use Rattle.sv_ops.specs.Numbers.{bumped, negated, quotient}
 use Rattle.sv_ops.specs.Operators.{binary, stops, assigned}
-use Rattle.sv_ops.specs.Texts.{line_of, texts_of, template}
+use Rattle.sv_ops.specs.Texts.{between, line_of, texts_of}
 use Rattle.sv_ops.specs.Visits.{Turn, Ends as Stops, Puts as PutsIn, Passes, Holds, turn, arguments, finish}
 use Rattle.sv_ops.specs.declared.faults.FaultKind.TheVariants.{NotAFunction, NoMember, NotText, BadKey, UseBeforeInit}
 use Rattle.sv_states.specs.States.{States}
@@ -41,6 +41,7 @@ use Rattle.sv_value.specs.Change.{truthy}
 use Rattle.sv_value.specs.Key.{key_of}
 use Rattle.sv_value.specs.Object.{get}
 use Rattle.sv_value.specs.Value.{Val, Vals, undefined, null, boolean, number, text, list, object, function, store, items}
+use Rattle.sv_value.specs.Words.{text_of}
 use Rattle.sv_value.specs.declared.key.Key.{Key}
 use Rattle.sv_view.specs.Level.{View}
 use Rattle.sv_view.specs.Constants.{module_constant_at}
@@ -89,7 +90,7 @@ module _ {P : States → Type 0} (stays : Stays P) where
 
   read_keeps : (g : Ground) (owner : ℕ) (x : Known) (s : Span) → Keeps P (read g owner x s)
   read_keeps g owner (known.Local x) s = kept_keeps (λ env. given_leaves UseBeforeInit s (look x.0 env))
-  read_keeps g owner (known.Cell n) s = doing_keeps (record { held = λ w h. (given_leaves UseBeforeInit s (cell_seen g.sight owner n w)).held w h })
+  read_keeps g owner (known.Cell n) s = doing_keeps (record { held = λ w h. (given_leaves UseBeforeInit s (cell_seen g.sight g.is_own owner n w)).held w h })
   read_keeps g owner (known.Constant n) s = doing_keeps (record { held = λ w h. (given_leaves UseBeforeInit s (constant_seen g.sight owner s.file n w)).held w h })
   read_keeps g owner (known.Export file n) s = doing_keeps (record { held = λ w h. (given_leaves UseBeforeInit s (module_constant_at (modules_seen g.sight w) file n)).held w h })
   read_keeps g owner known.Writable s = answered_keeps s (function_made WRITABLE 0 [])
@@ -107,7 +108,7 @@ module _ {P : States → Type 0} (stays : Stays P) where
 
   pub set_keeps : (g : Ground) (owner : ℕ) (x : Known) (v : Val) (s : Span) → Keeps P (set g owner x v s)
   set_keeps g owner (known.Local x) v s = record { held = λ env w h. local_held (look x.0 env) x.0 v s env w h }
-  set_keeps g owner (known.Cell n) v s = record { held = λ env w h. cell_held (cell_seen g.sight owner n w) g.sight g owner n v s env w h }
+  set_keeps g owner (known.Cell n) v s = record { held = λ env w h. cell_held (cell_seen g.sight g.is_own owner n w) g.sight g owner n v s env w h }
   set_keeps g owner (known.Constant n) v s = done_keeps v
   set_keeps g owner (known.Export file n) v s = done_keeps v
   set_keeps g owner known.Writable v s = done_keeps v
@@ -190,6 +191,13 @@ module _ {P : States → Type 0} (stays : Stays P) where
   args_keep : (args : List Expr) {go : List Val → Deed Val} → Each (ExprKeeps P) args → ((vs : List Val) → Leaves P (go vs)) → Keeps P (with_args args go)
   args_keep args h k = then_keeps (all_keep args h) (λ vs. doing_keeps (k vs))
 
+  texts_after_keep : (s : Span) (ts : List (List ℕ)) (ms : List (Meaning Val)) → Each (Keeps P) ms → Keeps P (texts_after s ts ms)
+  texts_after_keep s ts [] h = done_keeps ts
+  texts_after_keep s ts (m ∷ ms) h = then_keeps h.0 (λ v. then_keeps (doing_keeps (given_leaves NotText s (text_of v))) (λ t. texts_after_keep s (ts ++ t ∷ []) ms h.1))
+
+  template_keeps : (s : Span) (es : List Expr) → Each (ExprKeeps P) es → Keeps P (template_step s es)
+  template_keeps s es h = then_keeps (texts_after_keep s [] (map (λ e. e.means) es) (each_means es h)) (λ ts. answered_keeps s (spelled 0 (between [] ts)))
+
   put_all_leaves : {A : Type 0} (x : Spread A) (s : Span) (made : List A) → Leaves P (put_all x s made)
   put_all_leaves (Takes xs) s made = spent_leaves (length xs) s (ends_leaves (made ++ xs))
   put_all_leaves (TakesNone k) s made = fails_leaves k s
@@ -229,19 +237,19 @@ module _ {P : States → Type 0} (stays : Stays P) where
 
   -- ---- assignments
 
-  updated_keeps : (g : Ground) (owner : ℕ) (x : Known) (o : AssignOp) (s : Span) (a : Val) {m : Meaning Val} → Keeps P m → Keeps P (updated g owner x o s a m)
-  updated_keeps g owner x o s a k = then_keeps k (λ b. then_keeps (answered_keeps s (assigned o a b)) (λ v. set_keeps g owner x v s))
+  updated_keeps : (g : Ground) (owner : ℕ) (x : Known) (at : Span) (o : AssignOp) (s : Span) (a : Val) {m : Meaning Val} → Keeps P m → Keeps P (updated g owner x at o s a m)
+  updated_keeps g owner x at o s a k = then_keeps k (λ b. then_keeps (answered_keeps s (assigned o a b)) (λ v. set_keeps g owner x v at))
 
-  changing_keeps : (g : Ground) (owner : ℕ) (x : Known) (o : AssignOp) (s : Span) {m : Meaning Val} → Keeps P m → Keeps P (λ env w. and_then (read g owner x s env w) (λ a. updated g owner x o s a m))
-  changing_keeps g owner x o s k = then_keeps (read_keeps g owner x s) (λ a. updated_keeps g owner x o s a k)
+  changing_keeps : (g : Ground) (owner : ℕ) (x : Known) (at : Span) (o : AssignOp) (s : Span) {m : Meaning Val} → Keeps P m → Keeps P (λ env w. and_then (read g owner x at env w) (λ a. updated g owner x at o s a m))
+  changing_keeps g owner x at o s k = then_keeps (read_keeps g owner x at) (λ a. updated_keeps g owner x at o s a k)
 
-  assign_keeps : (o : AssignOp) (g : Ground) (owner : ℕ) (x : Known) (s : Span) {m : Meaning Val} → Keeps P m → Keeps P (assign_step o g owner x s m)
-  assign_keeps assign.Set g owner x s k = then_keeps k (λ v. set_keeps g owner x v s)
-  assign_keeps o g owner x s k = changing_keeps g owner x o s k
+  assign_keeps : (o : AssignOp) (g : Ground) (owner : ℕ) (x : Known) (at s : Span) {m : Meaning Val} → Keeps P m → Keeps P (assign_step o g owner x at s m)
+  assign_keeps assign.Set g owner x at s k = then_keeps k (λ v. set_keeps g owner x v at)
+  assign_keeps o g owner x at s k = changing_keeps g owner x at o s k
 
-  bump_keeps : (g : Ground) (owner : ℕ) (x : Known) (up prefix : Bool) (s : Span) → Keeps P (bump_step g owner x up prefix s)
-  bump_keeps g owner x up prefix s =
-      then_keeps (read_keeps g owner x (name_span prefix s)) (λ a. then_keeps (answered_keeps s (bumped up a)) (λ v. then_keeps (set_keeps g owner x v s) (λ u. done_keeps (if prefix then v else a))))
+  bump_keeps : (g : Ground) (owner : ℕ) (x : Known) (at : Span) (up prefix : Bool) (s : Span) → Keeps P (bump_step g owner x at up prefix s)
+  bump_keeps g owner x at up prefix s =
+      then_keeps (read_keeps g owner x at) (λ a. then_keeps (answered_keeps s (bumped up a)) (λ v. then_keeps (set_keeps g owner x v at) (λ u. done_keeps (if prefix then v else a))))
 
   -- ---- what `svelte` gives
 
@@ -418,14 +426,14 @@ module _ {P : States → Type 0} (stays : Stays P) where
       kind_keeps CodeKind-F.Null s = plain_keeps s (done_keeps null)
       kind_keeps (CodeKind-F.Bool b) s = plain_keeps s (done_keeps (boolean b))
       kind_keeps (CodeKind-F.Num n) s = plain_keeps s (done_keeps (number n))
-      kind_keeps (CodeKind-F.Text t) s = plain_keeps s (done_keeps (text t))
+      kind_keeps (CodeKind-F.Text t) s = plain_keeps s (answered_keeps s (text_made t))
       kind_keeps (CodeKind-F.Read x) s = record { means = read_keeps g owner x s; callee = callee_keeps x; ratio = tt }
       kind_keeps (CodeKind-F.List ps) s = plain_keeps s (then_keeps (parts_keep s [] _ (each_made (item_of g call owner) (PutsKeep P) ps)) (λ vs. answered_keeps s (list_made vs)))
       kind_keeps (CodeKind-F.Object ps) s = plain_keeps s (then_keeps (parts_keep s [] _ (each_made (field_of g call owner) (PutsKeep P) ps)) (λ es. answered_keeps s (object_made es)))
-      kind_keeps (CodeKind-F.Template es) s = plain_keeps s (then_keeps (all_keep _ (each_made (expr_of g call owner) (ExprKeeps P) es)) (λ vs. answered_keeps s (template vs)))
+      kind_keeps (CodeKind-F.Template es) s = plain_keeps s (template_keeps s _ (each_made (expr_of g call owner) (ExprKeeps P) es))
       kind_keeps (CodeKind-F.Arrow c) s = plain_keeps s (kept_keeps (λ env. answered_leaves s (arrow (slice_get g.program.functions c) c owner env)))
-      kind_keeps (CodeKind-F.Assign x o e) s = plain_keeps s (assign_keeps o g owner x s e.1.means)
-      kind_keeps (CodeKind-F.Bump x up prefix) s = plain_keeps s (bump_keeps g owner x up prefix s)
+      kind_keeps (CodeKind-F.Assign x at o e) s = plain_keeps s (assign_keeps o g owner x at s e.1.means)
+      kind_keeps (CodeKind-F.Bump x at up prefix) s = plain_keeps s (bump_keeps g owner x at up prefix s)
       kind_keeps (CodeKind-F.Chain e ls) s =
           let h : Each (LinkKeeps P) (map (link_of g call owner) (map (λ p. p.0) ls)) = each_made (link_of g call owner) (LinkKeeps P) ls in
           record { means = chain_keeps s _ e.1.means h; callee = tt; ratio = division_keeps s _ [] _ e.1.means tt h }
@@ -435,7 +443,7 @@ module _ {P : States → Type 0} (stays : Stays P) where
       kind_keeps (CodeKind-F.Member e p) s = record { means = then_keeps e.1.means (λ v. answered_keeps s (member_of p.method v (word_of g p))); callee = e.1.means; ratio = tt }
       kind_keeps (CodeKind-F.Index e at) s = plain_keeps s (then_keeps e.1.means (λ v. then_keeps at.1.means (λ k. answered_keeps s (index v k))))
       kind_keeps (CodeKind-F.Call e args) s = plain_keeps s (called_keeps _ owner _ _ s e.1.callee e.1 (each_made (expr_of g call owner) (ExprKeeps P) args))
-      kind_keeps (CodeKind-F.Dispatcher c args) s = plain_keeps s (counted_keeps s (args_keep _ (each_made (expr_of g call owner) (ExprKeeps P) args) (λ vs. answered_leaves s (function_made c owner []))))
+      kind_keeps (CodeKind-F.Dispatcher c at args) s = plain_keeps s (counted_keeps at (args_keep _ (each_made (expr_of g call owner) (ExprKeeps P) args) (λ vs. answered_leaves s (function_made c owner []))))
 
       code_keeps : (y : Code-F KnownField KnownItem KnownKind KnownCode KnownLink) → ExprKeeps P (code_step g call owner (made_code (bare_code y)))
       code_keeps y = let k : ExprKeeps P (kind_of g call owner y.kind.0 y.span) = y.kind.1 y.span in record { means = counted_keeps y.span k.means; callee = k.callee; ratio = k.ratio }

@@ -23,7 +23,7 @@ use Rattle.sv_meaning.specs.Values.{Expr, Link, Puts, expr_of, value, kind_of, i
 use Rattle.sv_meaning.specs.declared.context.Context.{Context}
 
 abbrev pub ground_of : Context → Ground
-ground_of c = record { program = c.program.now; sight = option_copied c.sight }
+ground_of c = record { program = c.program.now; sight = option_copied c.sight; arrows = c.arrows; is_own = c.is_own }
 
 -- who hears of events: nobody in a pure evaluation
 abbrev pub hearing : Option View → Program → Teller

@@ -11,7 +11,7 @@ use Rattle.sv_world.specs.declared.world.World.{World}
 use Rattle.sv_meaning.specs.Calls.{Caller, first, second, make_store}
 use Rattle.sv_meaning.specs.Env.{Env, bound, opened, params, numbers}
 use Rattle.sv_meaning.specs.Outcome.{Ending, Ends, Fails, Deed, Flow, Next, Broken, Continued, Returned, then_do, left, answered}
-use Rattle.sv_meaning.specs.Sight.{Ground, is_there}
+use Rattle.sv_meaning.specs.Sight.{Ground, ground_in, is_there}
 use Rattle.sv_meaning.specs.Values.{value}
 use Rattle.sv_meaning.specs.Statements.{run_all}
 
@@ -66,4 +66,4 @@ if_there false s deed w = Fails Dead s w
 -- a call where so many more may be open
 abbrev pub caller : Teller → Ground → ℕ → Caller
 caller tell g zero c o held args s w = if_there (is_there g.sight o w) s (Fails CallDepth s) w
-caller tell g (suc room) c o held args s w = if_there (is_there g.sight o w) s (found (slice_get g.program.functions c) tell g (caller tell g room) o (items held) args s) w
+caller tell g (suc room) c o held args s w = if_there (is_there g.sight o w) s (found (slice_get g.program.functions c) tell (ground_in g c) (caller tell (ground_in g c) room) o (items held) args s) w

@@ -6,6 +6,7 @@ pub mod Values
 pub mod Statements
 pub mod Functions
 pub mod Parts
+pub mod Moved
 pub mod Components
 pub mod Listeners
 pub mod Runs

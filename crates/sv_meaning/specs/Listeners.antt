@@ -52,7 +52,7 @@ listener_view w owner locals = option_map (λ v. with_locals v locals) (presente
 
 abbrev pub heard_on : Option View → Program → Caller → Part → Val → Deed (Unit {0})
 heard_on None p call part e w = Ends tt w
-heard_on (Some v) p call part e w = heard_result p call part.span (part_value p v part.code) e w
+heard_on (Some v) p call part e w = heard_result p call part.span (part_value p v part) e w
 
 -- one listener of a tag: passing on is telling the owner's own tag
 abbrev pub heard : (ℕ → Val → Deed (Unit {0})) → Program → Caller → ℕ → List Local → Option Part → Val → Deed (Unit {0})

@@ -1,6 +1,7 @@
 -- Pure evaluations: the value of an expression of markup on a view. It has steps and open calls of its own, and leaves nothing behind.
-use Rattle.std.specs.Prelude.{ℕ, [], Some, Result, Ok, Err}
-use Rattle.sv_code.specs.declared.code.Code.{Code}
+use Rattle.std.specs.Prelude.{true, [], Some, Result, Ok, Err}
+use Rattle.sv_code.specs.declared.parts.Arrows.{Arrows}
+use Rattle.sv_code.specs.declared.parts.Part.{Part}
 use Rattle.sv_code.specs.declared.program.Program.{Program}
 use Rattle.sv_ops.specs.declared.faults.Fault.{Fault}
 use Rattle.sv_states.specs.Empty.{no_states}
@@ -19,13 +20,18 @@ use Rattle.sv_meaning.specs.declared.limits.TheConstants.{CALL_LIMIT, PART_STEP_
 abbrev pub part_world : World
 part_world = record { states = no_states; modules = []; turn = record fresh { steps = PART_STEP_LIMIT } }
 
-abbrev pub ground : Program → View → Ground
-ground p v = record { program = p; sight = Some v }
+-- where a part runs in which some arrows are written
+abbrev pub ground : Program → View → Arrows → Ground
+ground p v arrows = record { program = p; sight = Some v; arrows = arrows; is_own = true }
 
 abbrev pub result_of : Outcome Val → Result Val Fault
 result_of (Done v env w) = Ok v
 result_of (Failed k s w) = Err (record { kind = k; span = s })
 
--- the value of an expression on a view, or its fault
-abbrev pub part_value : Program → View → Code → Result Val Fault
-part_value p v c = result_of (value (ground p v) (caller silent (ground p v) CALL_LIMIT) v.own.inst c (shown v.own.locals) part_world)
+-- what a part does on a view
+abbrev pub part_outcome : Program → View → Part → Outcome Val
+part_outcome p v part = value (ground p v part.arrows) (caller silent (ground p v part.arrows) CALL_LIMIT) v.own.inst part.code (shown v.own.locals) part_world
+
+-- the value of a part on a view, or its fault
+abbrev pub part_value : Program → View → Part → Result Val Fault
+part_value p v part = result_of (part_outcome p v part)

@@ -15,7 +15,7 @@ use Rattle.sv_code.specs.declared.program.Program.{Program}
 use Rattle.sv_code.specs.declared.program.ProgramFile.{ProgramFile}
 use Rattle.sv_code.specs.declared.program.Run.{Run}
 use Rattle.sv_code.specs.declared.program.StoreCell.{StoreCell}
-use Rattle.sv_ops.specs.declared.faults.FaultKind.TheVariants.{UseBeforeInit}
+use Rattle.sv_ops.specs.declared.faults.FaultKind.TheVariants.{NotAStore, UseBeforeInit}
 use Rattle.sv_states.specs.Change.{declared}
 use Rattle.sv_states.specs.States.{live, is_dirty_in}
 use Rattle.sv_value.specs.Value.{Val, Vals, undefined, function, none}
@@ -30,9 +30,9 @@ use Rattle.sv_meaning.specs.Sight.{Ground}
 use Rattle.sv_meaning.specs.Statements.{run, value_or, valued, declare, subscribe, constant_set, in_order}
 use Rattle.sv_meaning.specs.declared.limits.TheConstants.{CALL_LIMIT}
 
--- scripts run in the world itself
+-- scripts run in the world itself, where no code is that of a part
 abbrev pub world_ground : Program → Ground
-world_ground p = record { program = p; sight = None }
+world_ground p = record { program = p; sight = None; arrows = record { from = 0; to = 0 }; is_own = false }
 
 -- calls of scripts, none of which is open before
 abbrev pub calls : Program → Caller
@@ -121,12 +121,13 @@ abbrev pub view_opened : ℕ → Option ℕ → World → World
 view_opened owner None w = w
 view_opened owner (Some n) w = cell_opened owner w n
 
--- a store that a module file gives is subscribed to before the script runs
+-- what is imported in braces is subscribed to before the script runs, where it is a store; a constant is, where it is declared
 abbrev pub imported_subscribed : ℕ → StoreCell → Deed (Unit {0})
 imported_subscribed owner x w = from x.holder where
   from : Known → Ending (Unit {0})
   from (known.Export file n) = then_do (given UseBeforeInit x.span (module_constant_at w.modules file n) w) (subscribe owner x.cell x.span)
-  from _ = Ends tt w
+  from (known.Constant n) = Ends tt w
+  from _ = Fails NotAStore x.span w
 
 abbrev pub opened : Component → ℕ → World → World
 opened c owner w = functions_set owner c.script (view_opened owner c.view (cells_opened owner c.reactive w))

@@ -5,7 +5,9 @@ use Rattle.sv_base.specs.declared.span.Span.{Span}
 use Rattle.sv_code.specs.declared.known.Known.{Known}
 use Rattle.sv_code.specs.declared.known.Known.TheVariants as known
 use Rattle.sv_code.specs.declared.functions.TheConstants.{WRITABLE}
+use Rattle.sv_code.specs.declared.parts.Arrows.{Arrows}
 use Rattle.sv_code.specs.declared.program.Program.{Program}
+use Rattle.sv_code.specs.Within.{is_among}
 use Rattle.sv_ops.specs.Answer.{function_made}
 use Rattle.sv_ops.specs.declared.faults.FaultKind.TheVariants.{UseBeforeInit}
 use Rattle.sv_states.specs.States.{live, cell_in}
@@ -20,15 +22,27 @@ use Rattle.sv_world.specs.declared.world.World.{World}
 use Rattle.sv_meaning.specs.Env.{Env, look, given_value}
 use Rattle.sv_meaning.specs.Outcome.{Outcome, Done, Failed, Meaning, kept, given, answered}
 
--- what stays the same while code runs: the program, and the view of a pure evaluation
+-- what stays the same while the body of a function runs: the program; of a pure evaluation the view, and the arrows that are written in its
+-- part; and whether the code that runs is the part's own
 pub record Ground : Type 0 where
   pub program : Program
   pub sight : Option View
+  pub arrows : Arrows
+  pub is_own : Bool
+
+-- what the body of a function stands on: only an arrow that is written in the part is the part's own code
+abbrev pub ground_in : Ground → ℕ → Ground
+ground_in g c = record g { is_own = is_among c g.arrows }
+
+-- the value of a cell of a view, which the part's own code sees
+abbrev pub view_cell : Bool → View → ℕ → Option Val
+view_cell true v n = look_in v (at.Cell n)
+view_cell false v n = None
 
 -- the value of a cell of the owner
-abbrev pub cell_seen : Option View → ℕ → ℕ → World → Option Val
-cell_seen None owner n w = option_map (λ c. c.value) (cell_in (live w.states owner) n)
-cell_seen (Some v) owner n w = look_in v (at.Cell n)
+abbrev pub cell_seen : Option View → Bool → ℕ → ℕ → World → Option Val
+cell_seen None is_own owner n w = option_map (λ c. c.value) (cell_in (live w.states owner) n)
+cell_seen (Some v) is_own owner n w = view_cell is_own v n
 
 abbrev pub modules_seen : Option View → World → List (List (Option Val))
 modules_seen None w = w.modules
@@ -50,7 +64,7 @@ is_there (Some v) owner w = true
 -- the value of a name; what `svelte` gives and what is built in has none but where it is called
 abbrev pub read : Ground → ℕ → Known → Span → Meaning Val
 read g owner (known.Local x) s env w = kept env (given UseBeforeInit s (look x.0 env) w)
-read g owner (known.Cell n) s env w = kept env (given UseBeforeInit s (cell_seen g.sight owner n w) w)
+read g owner (known.Cell n) s env w = kept env (given UseBeforeInit s (cell_seen g.sight g.is_own owner n w) w)
 read g owner (known.Constant n) s env w = kept env (given UseBeforeInit s (constant_seen g.sight owner s.file n w) w)
 read g owner (known.Export file n) s env w = kept env (given UseBeforeInit s (module_constant_at (modules_seen g.sight w) file n) w)
 read g owner known.Writable s env w = kept env (answered s (function_made WRITABLE 0 []) w)
@@ -74,5 +88,5 @@ cell_set (Some old) g owner n v s env w = Done v env (cell_assigned g.sight owne
 -- a name whose declaration ran is assigned a value, which the assignment gives; nothing else can be assigned
 abbrev pub set : Ground → ℕ → Known → Val → Span → Meaning Val
 set g owner (known.Local x) v s env w = local_set (look x.0 env) x.0 v s env w
-set g owner (known.Cell n) v s env w = cell_set (cell_seen g.sight owner n w) g owner n v s env w
+set g owner (known.Cell n) v s env w = cell_set (cell_seen g.sight g.is_own owner n w) g owner n v s env w
 set g owner _ v s env w = Done v env w

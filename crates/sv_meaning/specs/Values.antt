@@ -1,5 +1,5 @@
 -- What expressions do (ECMA-262, section 13, in the subset that docs/language.md gives). Each node takes a step before its parts.
-use Rattle.std.specs.Prelude.{ℕ, ◌+◌, min, Bool, true, false, not, List, [], ◌∷◌, ◌++◌, length, map, Option, Some, None, is_some, option_and_then, slice_get, if◌then◌else◌}
+use Rattle.std.specs.Prelude.{ℕ, Bool, true, false, not, List, [], ◌∷◌, ◌++◌, length, map, Option, Some, None, is_some, option_and_then, slice_get, if◌then◌else◌}
 use Rattle.sv_ast.specs.declared.operators.AssignOp.{AssignOp}
 use Rattle.sv_ast.specs.declared.operators.AssignOp.TheVariants.{Set}
 use Rattle.sv_ast.specs.declared.operators.Op.{Op}
@@ -24,18 +24,19 @@ use Rattle.sv_code.specs.declared.known.Property.{Property}
 use Rattle.sv_instance.specs.Callbacks.{with_callback}
 use Rattle.sv_instance.specs.declared.callbacks.When.{When}
 use Rattle.sv_instance.specs.declared.callbacks.When.TheVariants as when
-use Rattle.sv_ops.specs.Answer.{Answer, Refuses, gives, list_made, object_made, function_made}
+use Rattle.sv_ops.specs.Answer.{Answer, Refuses, gives, spelled, text_made, list_made, object_made, function_made}
 use Rattle.sv_ops.specs.Math.{to_text, to_boolean}
 use Rattle.sv_ops.specs.Members.{Spread, Takes, TakesNone, member, length_of, index, spread, spread_fields, or_undefined}
 use Rattle.sv_ops.specs.Numbers.{bumped, negated, quotient}
 use Rattle.sv_ops.specs.Operators.{binary, stops, assigned}
-use Rattle.sv_ops.specs.Texts.{template}
-use Rattle.sv_ops.specs.declared.faults.FaultKind.TheVariants.{NotAFunction, NoMember, BadKey, UseBeforeInit}
+use Rattle.sv_ops.specs.Texts.{between}
+use Rattle.sv_ops.specs.declared.faults.FaultKind.TheVariants.{NotAFunction, NoMember, NotText, BadKey, UseBeforeInit}
 use Rattle.sv_states.specs.Context.{context_of}
 use Rattle.sv_value.specs.Change.{truthy}
 use Rattle.sv_value.specs.Key.{key_of}
 use Rattle.sv_value.specs.Object.{get}
 use Rattle.sv_value.specs.Value.{Val, Vals, Fields, undefined, null, boolean, number, text, list, object, function, store, items}
+use Rattle.sv_value.specs.Words.{text_of}
 use Rattle.sv_value.specs.declared.key.Key.{Key}
 use Rattle.sv_world.specs.Setup.{set_up}
 use Rattle.sv_world.specs.declared.world.World.{World}
@@ -92,6 +93,22 @@ all_values es = all_after [] (map (λ e. e.means) es)
 -- what is done with the values of the arguments
 abbrev pub with_args : List Expr → (List Val → Deed Val) → Meaning Val
 with_args args go env w = and_then (all_values args env w) (λ vs. doing (go vs))
+
+-- the text of a value that has one
+abbrev pub texted_at : Span → Val → Deed (List ℕ)
+texted_at s v = given NotText s (text_of v)
+
+-- the texts of expressions from left to right, behind some, for a template at a place: each is made before the next expression is evaluated
+abbrev pub texts_after : Span → List (List ℕ) → List (Meaning Val) → Meaning (List (List ℕ))
+texts_after s ts [] env w = Done ts env w
+texts_after s ts (m ∷ ms) env w = and_then (m env w) (λ v env' w'. and_then (kept env' (texted_at s v w')) (λ t. texts_after s (ts ++ t ∷ []) ms))
+
+abbrev pub all_texts : Span → List Expr → Meaning (List (List ℕ))
+all_texts s es = texts_after s [] (map (λ e. e.means) es)
+
+-- a template: the texts of its parts, joined
+abbrev pub template_step : Span → List Expr → Meaning Val
+template_step s es env w = and_then (all_texts s es env w) (λ ts. doing (answered s (spelled 0 (between [] ts))))
 
 -- ---- names, members and literals
 
@@ -160,9 +177,9 @@ last_division s m before (l ∷ (k ∷ ls)) = last_division s m (before ++ l ∷
 abbrev pub indexed : Span → Meaning Val → Meaning Val → Meaning Val
 indexed s m n env w = and_then (m env w) (λ v env' w'. and_then (n env' w') (λ k. doing (answered s (index v k))))
 
--- a call of `createEventDispatcher` gives a function; what it is handed is evaluated and dropped
-abbrev pub dispatcher_step : (code owner : ℕ) → Span → List Expr → Meaning Val
-dispatcher_step c owner s args = counted s (with_args args (λ vs. answered s (function_made c owner [])))
+-- a call of `createEventDispatcher`, which stands at a place, gives a function; what it is handed is evaluated and dropped
+abbrev pub dispatcher_step : (code owner : ℕ) → (at : Span) → Span → List Expr → Meaning Val
+dispatcher_step c owner at s args = counted at (with_args args (λ vs. answered s (function_made c owner [])))
 
 -- ---- arrows
 
@@ -180,24 +197,19 @@ abbrev pub arrow : Option Function → (code owner : ℕ) → Env → Answer
 arrow None c o env = gives undefined
 arrow (Some f) c o env = holding c o (captured_after [] f.captured env)
 
--- ---- assignments
+-- ---- assignments of names that stand at a place
 
 -- the value of a name and an operand give the name a new one
-abbrev pub updated : Ground → ℕ → Known → AssignOp → Span → Val → Meaning Val → Meaning Val
-updated g owner x op s a m env w = and_then (m env w) (λ b env' w'. and_then (kept env' (answered s (assigned op a b) w')) (λ v. set g owner x v s))
+abbrev pub updated : Ground → ℕ → Known → (at : Span) → AssignOp → Span → Val → Meaning Val → Meaning Val
+updated g owner x at op s a m env w = and_then (m env w) (λ b env' w'. and_then (kept env' (answered s (assigned op a b) w')) (λ v. set g owner x v at))
 
-abbrev pub assign_step : AssignOp → Ground → ℕ → Known → Span → Meaning Val → Meaning Val
-assign_step Set g owner x s m env w = and_then (m env w) (λ v. set g owner x v s)
-assign_step op g owner x s m env w = and_then (read g owner x s env w) (λ a. updated g owner x op s a m)
+abbrev pub assign_step : AssignOp → Ground → ℕ → Known → (at : Span) → Span → Meaning Val → Meaning Val
+assign_step Set g owner x at s m env w = and_then (m env w) (λ v. set g owner x v at)
+assign_step op g owner x at s m env w = and_then (read g owner x at env w) (λ a. updated g owner x at op s a m)
 
--- the name stands behind a `++` or `--` in front of it
-abbrev pub name_span : Bool → Span → Span
-name_span true s = record s { from = min (s.from + 2) s.to }
-name_span false s = s
-
-abbrev pub bump_step : Ground → ℕ → Known → (up prefix : Bool) → Span → Meaning Val
-bump_step g owner x up prefix s env w =
-    and_then (read g owner x (name_span prefix s) env w) (λ a env' w'. and_then (kept env' (answered s (bumped up a) w')) (λ v env'' w''. and_then (set g owner x v s env'' w'') (λ u. Done (if prefix then v else a))))
+abbrev pub bump_step : Ground → ℕ → Known → (at : Span) → (up prefix : Bool) → Span → Meaning Val
+bump_step g owner x at up prefix s env w =
+    and_then (read g owner x at env w) (λ a env' w'. and_then (kept env' (answered s (bumped up a) w')) (λ v env'' w''. and_then (set g owner x v at env'' w'') (λ u. Done (if prefix then v else a))))
 
 -- ---- calls
 
@@ -312,14 +324,14 @@ module _ (g : Ground) (call : Caller) (owner : ℕ) where
   kind_step CodeKind-F.Null s = plain s (Done null)
   kind_step (CodeKind-F.Bool b) s = plain s (Done (boolean b))
   kind_step (CodeKind-F.Num n) s = plain s (Done (number n))
-  kind_step (CodeKind-F.Text t) s = plain s (Done (text t))
+  kind_step (CodeKind-F.Text t) s = plain s (doing (answered s (text_made t)))
   kind_step (CodeKind-F.Read x) s = record { span = s; means = read g owner x s; callee = callee_of x; built = built_of x; ratio = None }
   kind_step (CodeKind-F.List ps) s = plain s (λ env w. and_then (parts_after s [] ps env w) (λ vs. doing (answered s (list_made vs))))
   kind_step (CodeKind-F.Object ps) s = plain s (λ env w. and_then (parts_after s [] ps env w) (λ es. doing (answered s (object_made es))))
-  kind_step (CodeKind-F.Template es) s = plain s (λ env w. and_then (all_values es env w) (λ vs. doing (answered s (template vs))))
+  kind_step (CodeKind-F.Template es) s = plain s (template_step s es)
   kind_step (CodeKind-F.Arrow c) s = plain s (λ env w. kept env (answered s (arrow (slice_get g.program.functions c) c owner env) w))
-  kind_step (CodeKind-F.Assign x op e) s = plain s (assign_step op g owner x s e.means)
-  kind_step (CodeKind-F.Bump x up prefix) s = plain s (bump_step g owner x up prefix s)
+  kind_step (CodeKind-F.Assign x at op e) s = plain s (assign_step op g owner x at s e.means)
+  kind_step (CodeKind-F.Bump x at up prefix) s = plain s (bump_step g owner x at up prefix s)
   kind_step (CodeKind-F.Chain e ls) s = record (plain s (chain s e.means ls)) { ratio = last_division s e.means [] ls }
   kind_step (CodeKind-F.Not e) s = plain s (λ env w. and_then (e.means env w) (λ v. Done (boolean (not (truthy v)))))
   kind_step (CodeKind-F.Minus e) s = plain s (λ env w. and_then (e.means env w) (λ v. doing (answered s (negated v))))
@@ -327,7 +339,7 @@ module _ (g : Ground) (call : Caller) (owner : ℕ) where
   kind_step (CodeKind-F.Member e p) s = record (plain s (λ env w. and_then (e.means env w) (λ v. doing (answered s (member_of p.method v (word_of g p)))))) { callee = On e.built e.means p }
   kind_step (CodeKind-F.Index e at) s = plain s (indexed s e.means at.means)
   kind_step (CodeKind-F.Call e args) s = plain s (call_step e.callee g call owner e args s)
-  kind_step (CodeKind-F.Dispatcher c args) s = plain s (dispatcher_step c owner s args)
+  kind_step (CodeKind-F.Dispatcher c at args) s = plain s (dispatcher_step c owner at s args)
 
   abbrev pub code_step : Code-F (Puts (List ℕ × Val)) (Puts Val) (Span → Expr) Expr Link → Expr
   code_step c = record (c.kind c.span) { span = c.span; means = counted c.span (c.kind c.span).means }

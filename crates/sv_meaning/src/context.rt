@@ -1,5 +1,5 @@
 // Where code runs.
-ghost use Rattle.std.specs.Prelude.{◌≡◌, ◌≤◌, map, Some, option_map, option_copied, slice_get};
+ghost use Rattle.std.specs.Prelude.{◌≡◌, ◌≤◌, map, Some, None, false, option_map, option_copied, slice_get};
 ghost use Rattle.sv_value.specs.View.{view_of};
 ghost use Rattle.sv_code.specs.declared.functions.TheConstants.{WRITABLE};
 ghost use Rattle.sv_ops.specs.declared.faults.FaultKind.TheVariants.{UseBeforeInit};
@@ -14,33 +14,58 @@ ghost use Rattle.sv_meaning.specs.Sight.{read, set, cell_seen, cell_set, local_s
 
 use crate::counting::{answer, fault};
 use crate::errors::EvalError;
+use crate::limits::CALL_LIMIT;
 use crate::locals::Locals;
 use std::alloc::Global;
 use sv_base::{Name, Span};
-use sv_code::{Known, Program, WRITABLE};
+use sv_code::{Arrows, Known, Program, WRITABLE};
 use sv_ops::{FaultKind, function_of};
 use sv_value::{Inst, Value};
 use sv_view::{At, View};
 use sv_world::World;
 
 /// What stays the same while the body of a function runs: the program; the view on which a pure evaluation runs, in place of the
-/// world; whose code it is, an instance or a module file, which has number 0; and how many calls may still be open.
+/// world, the arrows that are written in its part, and whether the code that runs is the part's own; whose code it is, an instance or a
+/// module file, which has number 0; and how many calls may still be open.
 #[derive(Clone, Copy)]
 pub struct Context<'a> {
     pub alloc: Global,
     pub program: &'a Program,
     pub sight: Option<&'a View>,
+    pub arrows: Arrows,
+    pub is_own: bool,
     pub owner: Inst,
     pub room: u32,
 }
 
+/// Where a script runs: in the world itself, with no call open.
+pub fn script_context(alloc: Global, program: &Program, owner: Inst) -> Context<'_>
+    ensures { result ≡ record { alloc = alloc; program = program.entry; sight = None; arrows = record { from = 0; to = 0 }; is_own = false; owner = owner; room = CALL_LIMIT } }
+{
+    Context {
+        alloc,
+        program,
+        sight: None,
+        arrows: Arrows { from: 0, to: 0 },
+        is_own: false,
+        owner,
+        room: CALL_LIMIT,
+    }
+}
+
 impl Context<'_> {
-    // The value of a cell of the owner.
+    // The value of a cell of the owner. In a pure evaluation only the part's own code sees cells.
     fn cell<'b>(&'b self, world: &'b World, cell: u8) -> Option<&'b Value>
-        ensures { option_map view_of (option_copied result) ≡ cell_seen (option_copied self.now.sight) self.now.owner.number cell world.now }
+        ensures { option_map view_of (option_copied result) ≡ cell_seen (option_copied self.now.sight) self.now.is_own self.now.owner.number cell world.now }
     {
         match self.sight {
-            Some(view) => view.look(At::Cell(cell)),
+            Some(view) => {
+                if self.is_own {
+                    view.look(At::Cell(cell))
+                } else {
+                    None
+                }
+            }
             None => match world.cell(self.owner, cell) {
                 Some(cell) => Some(&cell.value),
                 None => None,
@@ -129,7 +154,7 @@ impl Context<'_> {
         value: Value,
         span: Span,
     ) -> Result<Value, EvalError>
-        ensures means { (env : Env) → Gives view_of result env world.new (cell_set (cell_seen (option_copied self.now.sight) self.now.owner.number cell world.old) (ground_of self.now) self.now.owner.number cell (view_of value) span env world.old) }
+        ensures means { (env : Env) → Gives view_of result env world.new (cell_set (cell_seen (option_copied self.now.sight) self.now.is_own self.now.owner.number cell world.old) (ground_of self.now) self.now.owner.number cell (view_of value) span env world.old) }
         ensures fewer { world.new.turn.steps ≤ world.old.turn.steps }
     {
         if self.cell(world, cell).is_none() {

@@ -7,7 +7,8 @@ ghost use Rattle.sv_ops.specs.Members.{spread, spread_fields};
 ghost use Rattle.sv_ops.specs.Answers.{Answers};
 ghost use Rattle.sv_meaning.specs.Context.{ground_of};
 ghost use Rattle.sv_meaning.specs.Gives.{EndsAs};
-ghost use Rattle.sv_meaning.specs.Values.{put_one, put_all, member_of, word_of, arrow, captured_after};
+ghost use Rattle.sv_meaning.specs.Values.{put_one, put_all, texted_at, member_of, word_of, arrow, captured_after};
+ghost use Rattle.sv_world.specs.declared.world.World.{World as Worlds};
 
 use crate::context::Context;
 use crate::counting::{fault, spend};
@@ -16,7 +17,9 @@ use crate::locals::Locals;
 use std::alloc::Global;
 use sv_base::{Name, NoMemory, Span, Text};
 use sv_code::{Method, Property};
-use sv_ops::{FaultKind, Given, OpError, function_of, length, member, put_fields, put_items};
+use sv_ops::{
+    FaultKind, Given, OpError, function_of, length, member, put_fields, put_items, text_or_fault,
+};
 use sv_value::{Obj, Value};
 use sv_world::World;
 
@@ -83,6 +86,17 @@ pub fn spread_entries(
     let before = made.len();
     match put_fields(made, value) {
         Ok(()) => spend(world, made.len() - before, span),
+        Err(OpError::Fault(kind)) => Err(fault(kind, span)),
+        Err(OpError::NoMemory) => Err(EvalError::NoMemory),
+    }
+}
+
+/// The text of a value; `NotText` at the place exactly where it has none.
+pub fn text_at(alloc: Global, value: &Value, span: Span) -> Result<Text, EvalError>
+    ensures { (w : Worlds) → EndsAs (λ t. t) result w (texted_at span (view_of value.now) w) }
+{
+    match text_or_fault(alloc, value) {
+        Ok(text) => Ok(text),
         Err(OpError::Fault(kind)) => Err(fault(kind, span)),
         Err(OpError::NoMemory) => Err(EvalError::NoMemory),
     }

@@ -29,6 +29,10 @@ made cost v = within (nat_lt VALUE_DEPTH_LIMIT (depth v)) (nat_lt VALUE_SIZE_LIM
 abbrev pub spelled : ℕ → List ℕ → Answer
 spelled walked t = made (walked + length t) (text t)
 
+-- a text that is there already
+abbrev pub text_made : List ℕ → Answer
+text_made t = made 0 (text t)
+
 -- a list, an object and a function that are made, whose parts were counted as they were put in
 abbrev pub list_made : List Val → Answer
 list_made vs = made 0 (list (vals vs))

@@ -88,10 +88,6 @@ abbrev pub with_texts : Option (List (List ℕ)) → (List (List ℕ) → Answer
 with_texts None go = Refuses NotText
 with_texts (Some texts) go = go texts
 
--- a template: the texts of its parts, joined
-abbrev pub template : List Val → Answer
-template vs = with_texts (texts_of vs) (λ texts. spelled 0 (between [] texts))
-
 -- a line of the log: the texts of some values with a space between. It is no value, and costs its bytes
 abbrev pub line_of : List (List ℕ) → List ℕ
 line_of texts = between (codes " ") texts

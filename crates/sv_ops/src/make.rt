@@ -4,14 +4,27 @@ ghost use Rattle.sv_value.specs.Value.{list, vals};
 ghost use Rattle.sv_value.specs.View.{view_of, entry_of};
 ghost use Rattle.sv_value.specs.Making.{Makes};
 ghost use Rattle.sv_value.specs.Value.{Val};
-ghost use Rattle.sv_ops.specs.Answer.{made as made_at, spelled, list_made, object_made, function_made};
+ghost use Rattle.sv_ops.specs.Answer.{made as made_at, spelled, text_made, list_made, object_made, function_made};
 ghost use Rattle.sv_ops.specs.Answers.{Answers};
 
 use crate::faults::{FaultKind, OpError};
 use crate::given::Given;
 use std::alloc::Global;
-use sv_base::Text;
+use sv_base::{Text, VALUE_SIZE_LIMIT};
 use sv_value::{Inst, Value, ValueFault, make_func, make_list, make_obj, make_text};
+
+/// A text that is there already, as a value, which costs nothing more; `Large` exactly where it would be larger than a value may be.
+pub fn text_value(text: &Text) -> Result<Given, OpError>
+    ensures { Answers result (text_made text.now) }
+{
+    if text.as_str().len() >= VALUE_SIZE_LIMIT as usize {
+        return Err(OpError::Fault(FaultKind::Large));
+    }
+    Ok(Given {
+        value: Value::Text(text.share()?),
+        cost: 0,
+    })
+}
 
 /// A list of these items, which costs nothing more; `Deep` or else `Large` where it would be deeper or larger than a value may be.
 pub fn list_of(alloc: Global, items: Vec<Value>) -> Result<Given, OpError>

@@ -16,7 +16,7 @@ use sv_base::{NoMemory, Text, VALUE_SIZE_LIMIT};
 use sv_value::{Value, ValueFault};
 
 /// The text of a value; `NotText` exactly where it has none.
-pub(crate) fn text_or_fault(alloc: Global, value: &Value) -> Result<Text, OpError>
+pub fn text_or_fault(alloc: Global, value: &Value) -> Result<Text, OpError>
     ensures { HasText (λ t. t) result (text_of (view_of value.now)) }
 {
     match sv_value::text_of(alloc, value) {
@@ -128,14 +128,6 @@ fn piece_of(alloc: Global, piece: &str) -> Result<Value, NoMemory>
     ensures { IfOk result (λ value. view_of value ≡ text piece.now) }
 {
     Ok(Value::Text(Text::new(alloc, piece)?))
-}
-
-/// A template: the texts of its parts, joined, which costs the text's bytes; `NotText` where one has none, or else `Large`.
-pub fn template(alloc: Global, values: &[Value]) -> Result<Given, OpError>
-    ensures { Answers result (spec.template (map view_of values.now)) }
-{
-    let texts = texts_of(alloc, values)?;
-    joined(alloc, "", &texts)
 }
 
 /// A line of the log: the texts of some values with a space between; `NotText` exactly where one has none.

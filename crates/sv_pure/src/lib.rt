@@ -1,9 +1,10 @@
 //! The values of the expressions of markup, each of which is counted.
 #![tactic(auto)]
 
-ghost use Rattle.std.specs.Prelude.{◌≡◌, ◌+◌, OnOk};
+ghost use Rattle.std.specs.Prelude.{◌≡◌};
 ghost use Rattle.sv_meaning.specs.Gives.{Evaluates};
 ghost use Rattle.sv_meaning.specs.Parts.{part_value};
+ghost use Rattle.sv_pure.specs.Counting.{Counts};
 
 use std::alloc::Global;
 use sv_code::{Part, Program};
@@ -27,7 +28,7 @@ impl Tally {
     }
 }
 
-/// The value of a part on a view, or its fault; a value is counted.
+/// The value of a part on a view, or its fault. Either is counted.
 pub fn eval(
     alloc: Global,
     program: &Program,
@@ -35,13 +36,12 @@ pub fn eval(
     view: &View,
     tally: &mut Tally,
 ) -> Result<Value, EvalError>
-    ensures value { Evaluates result (part_value program.now view.now part.now.code) }
-    ensures counted { OnOk result (tally.new ≡ record { count = tally.old.count + 1 }) }
+    ensures value { Evaluates result (part_value program.now view.now part.now) }
+    ensures counted { Counts result tally.old tally.new }
 {
     let Some(count) = tally.count.checked_add(1) else {
         return Err(EvalError::NoMemory);
     };
-    let value = eval_part(alloc, program, view, &part.code)?;
     tally.count = count;
-    Ok(value)
+    eval_part(alloc, program, view, part)
 }

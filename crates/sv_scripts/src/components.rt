@@ -1,8 +1,12 @@
 // The scripts of components as they are made.
 ghost use Rattle.std.specs.Prelude.{◌≡◌, map, IfOk, OnOk, option_copied};
 ghost use Rattle.sv_meaning.specs.Gives.{EndsAs};
+ghost use Rattle.sv_meaning.specs.Outcome.{given, then_do};
 ghost use Rattle.sv_meaning.specs.Runs.{cell_opened, cells_opened, view_opened, imported_subscribed, each_in_turn, opened, run_component, run_top};
+ghost use Rattle.sv_meaning.specs.Statements as spec;
+ghost use Rattle.sv_ops.specs.declared.faults.FaultKind.TheVariants.{UseBeforeInit};
 ghost use Rattle.sv_scripts.specs.Props.{given_as};
+ghost use Rattle.sv_view.specs.Constants.{module_constant_at};
 
 use crate::script::{Given, Script};
 use std::alloc::Global;
@@ -65,7 +69,7 @@ fn open_cell(world: &mut World, inst: Inst, cell: u8)
     world.states.declare(Sub { inst, cell }, Value::Undefined);
 }
 
-// Stores that module files give are subscribed.
+// What is imported in braces is subscribed.
 fn subscribe_imports(world: &mut World, inst: Inst, stores: &[StoreCell]) -> Result<(), EvalError>
     ensures { EndsAs (λ u. u) result world.new (each_in_turn (imported_subscribed inst.number) stores.now world.old) }
 {
@@ -78,9 +82,25 @@ fn subscribe_imports(world: &mut World, inst: Inst, stores: &[StoreCell]) -> Res
 fn subscribe_import(world: &mut World, inst: Inst, store: &StoreCell) -> Result<(), EvalError>
     ensures { EndsAs (λ u. u) result world.new (imported_subscribed inst.number store.now world.old) }
 {
-    let Known::Export { file, constant } = store.holder else {
-        return Ok(());
-    };
+    match store.holder {
+        Known::Export { file, constant } => subscribe_export(world, inst, store, file, constant),
+        Known::Constant(_) => Ok(()),
+        Known::Local(_) | Known::Cell(_) | Known::Life(_) | Known::Writable | Known::BuiltIn(_) => {
+            Err(fault(FaultKind::NotAStore, store.span))
+        }
+    }
+}
+
+// What a module file gives is subscribed, where it is a store.
+fn subscribe_export(
+    world: &mut World,
+    inst: Inst,
+    store: &StoreCell,
+    file: u16,
+    constant: u32,
+) -> Result<(), EvalError>
+    ensures { EndsAs (λ u. u) result world.new (then_do (given UseBeforeInit store.now.span (module_constant_at world.old.modules file constant) world.old) (spec.subscribe inst.number store.now.cell store.now.span)) }
+{
     let Some(value) = world.modules.get(file, constant) else {
         return Err(fault(FaultKind::UseBeforeInit, store.span));
     };

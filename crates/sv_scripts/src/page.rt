@@ -1,5 +1,5 @@
 // What the page calls: functions of scripts, and the listeners of tags.
-ghost use Rattle.std.specs.Prelude.{◌≡◌, map};
+ghost use Rattle.std.specs.Prelude.{◌≡◌, false, map};
 ghost use Rattle.sv_value.specs.View.{view_of};
 ghost use Rattle.sv_meaning.specs.Gives.{EndsAs};
 ghost use Rattle.sv_meaning.specs.Listeners.{teller};
@@ -9,7 +9,7 @@ use std::alloc::Global;
 use sv_base::{Span, Text};
 use sv_code::Program;
 use sv_eval::{Dispatched, call_value, tell};
-use sv_meaning::{CALL_LIMIT, Context, EvalError, source_of};
+use sv_meaning::{CALL_LIMIT, Context, EvalError, script_context, source_of};
 use sv_states::DEPTH_LIMIT;
 use sv_value::{Inst, Value};
 use sv_world::World;
@@ -62,13 +62,7 @@ pub fn tell_tag(
 
 // Nobody's code: the page itself.
 fn page_context(alloc: Global, program: &Program) -> Context<'_>
-    ensures { result ≡ record { alloc = alloc; program = program.entry; sight = None; owner = record { key = 0; number = 0 }; room = CALL_LIMIT } }
+    ensures { result ≡ record { alloc = alloc; program = program.entry; sight = None; arrows = record { from = 0; to = 0 }; is_own = false; owner = record { key = 0; number = 0 }; room = CALL_LIMIT } }
 {
-    Context {
-        alloc,
-        program,
-        sight: None,
-        owner: Inst { key: 0, number: 0 },
-        room: CALL_LIMIT,
-    }
+    script_context(alloc, program, Inst { key: 0, number: 0 })
 }

@@ -6,7 +6,7 @@ ghost use Rattle.sv_meaning.specs.Gives.{EndsAs};
 ghost use Rattle.sv_meaning.specs.Runs.{each_in_turn, inner, is_due, run_at, run_due, run_reactive};
 
 use std::alloc::Global;
-use sv_code::{CodeStmt, CodeStmtKind, Program, Run};
+use sv_code::{Arrows, CodeStmt, CodeStmtKind, Program, Run};
 use sv_eval::run;
 use sv_meaning::{CALL_LIMIT, Context, EvalError, Locals, component_of};
 use sv_value::Inst;
@@ -86,6 +86,8 @@ fn run_stmt(rerun: &Rerun, world: &mut World, stmt: &CodeStmt) -> Result<(), Eva
         alloc: rerun.alloc,
         program: rerun.program,
         sight: None,
+        arrows: Arrows { from: 0, to: 0 },
+        is_own: false,
         owner: rerun.inst,
         room: CALL_LIMIT,
     };

@@ -1,5 +1,5 @@
 // The statements at the top of a file.
-ghost use Rattle.std.specs.Prelude.{◌≡◌, ◌≤◌, [], map, IfOk, OnOk};
+ghost use Rattle.std.specs.Prelude.{◌≡◌, false, ◌≤◌, [], map, IfOk, OnOk};
 ghost use Rattle.sv_code.specs.declared.functions.CodeStmtKind.{out-CodeStmtKind};
 ghost use Rattle.sv_value.specs.Value.{function, none};
 ghost use Rattle.sv_value.specs.View.{view_of};
@@ -13,7 +13,9 @@ use std::alloc::Global;
 use sv_base::NoMemory;
 use sv_code::{CodeDecl, CodeStmt, CodeStmtKind, Known, Program};
 use sv_eval::{eval_or, run};
-use sv_meaning::{CALL_LIMIT, Context, End, EvalError, Locals, count, declare, set_constant};
+use sv_meaning::{
+    CALL_LIMIT, Context, End, EvalError, Locals, count, declare, script_context, set_constant,
+};
 use sv_value::{Inst, Value, make_func};
 use sv_world::World;
 
@@ -31,15 +33,9 @@ pub(crate) struct Script<'a> {
 
 impl Script<'_> {
     fn context(&self) -> Context<'_>
-        ensures { result ≡ record { alloc = self.now.alloc; program = self.now.program; sight = None; owner = self.now.owner; room = CALL_LIMIT } }
+        ensures { result ≡ record { alloc = self.now.alloc; program = self.now.program; sight = None; arrows = record { from = 0; to = 0 }; is_own = false; owner = self.now.owner; room = CALL_LIMIT } }
     {
-        Context {
-            alloc: self.alloc,
-            program: self.program,
-            sight: None,
-            owner: self.owner,
-            room: CALL_LIMIT,
-        }
+        script_context(self.alloc, self.program, self.owner)
     }
 
     /// The functions of the file get their values.

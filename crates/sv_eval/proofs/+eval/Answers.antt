@@ -1,9 +1,9 @@
-use Rattle.std.proofs.Common.{◌≡◌, ◌≤◌, ◌<◌, ◌+◌, ◌-◌, [], ◌∷◌, ◌++◌, map, suc, refl, sym, ap, ◌∙◌, subst, arith, ℕ, Bool, true, false, List, Option, Some, None, option_copied, get_or}
+use Rattle.std.proofs.Common.{◌≡◌, ◌≤◌, ◌<◌, ◌+◌, ◌-◌, [], ◌∷◌, ◌++◌, map, suc, refl, sym, ap, ap₂, ◌∙◌, subst, arith, ℕ, Bool, true, false, List, Option, Some, None, option_copied, get_or}
 use Rattle.std.proofs.lemmas.Option.{slice_get-get_or}
 use Rattle.sv_code.specs.declared.known.Known.TheVariants as known
+use Rattle.sv_code.specs.Within.{is_among}
 use Rattle.sv_ops.specs.Answer.{Answer, list_made, object_made}
 use Rattle.sv_ops.specs.Numbers.{quotient}
-use Rattle.sv_ops.specs.Texts.{template}
 use Rattle.sv_value.specs.Value.{Val, items, list}
 use Rattle.sv_value.specs.View.{view_of, entry_of}
 use Rattle.sv_meaning.specs.Calls.{first, on_list, call_value}
@@ -13,6 +13,7 @@ use Rattle.sv_meaning.specs.Functions.{caller, entered, env_of, returned}
 use Rattle.sv_meaning.specs.Gives.{Gives, EndsAs, flow_of}
 use Rattle.sv_meaning.specs.Listeners.{listener_view}
 use Rattle.sv_meaning.specs.Outcome.{Ends, Fails, Done, Failed, Meaning, Deed, Flow, Next, and_then, then_do, left, doing, counted, answered}
+use Rattle.sv_meaning.specs.Sight.{Ground}
 use Rattle.sv_meaning.specs.Statements.{does, done, in_order, takes_step, turns, tested, value_or}
 use Rattle.sv_meaning.specs.Values.{Ratio, all_values, with_args, call_step, callee_of, life_call, convert, parts_after, chained, ratio_or, divide, math_call, method_call}
 use Rattle.sv_eval.specs.Quotient.{ratio_of}
@@ -132,7 +133,9 @@ calls::call_value-returns-clause-means t c =
     let there = sym (rw o at c.has_owner.ensures) ∙ c.if-not-has_owner.false in
     let i = call_is (tells g) g n (n - 1) f.code f.owner.number f.held vs args c.args.span w c.in-Some.code.now (omega (arith, c.if-context-eq0.false)) there (sym c.held.ensures.list) found in
     let v = ap (λ x. call_value (calls_of ctx) c.args.span (view_of x) args w) c.in-Func.is in
-    let k = ap (λ m. entered c.in-Some.code.now.body (tells g) g (caller (tells g) g (n - 1)) m (env_of c.in-Some.code.now vs args) args c.args.span w) (sym o) in
+    let own = ap (λ x. is_among x g.arrows) (sym c.code-2.ensures) ∙ sym c.contains.ensures in
+    let inside : Bool → Ground = λ (x : Bool). record g { is_own = x } in
+    let k = ap₂ (λ x m. entered c.in-Some.code.now.body (tells g) (inside x) (caller (tells g) (inside x) (n - 1)) m (env_of c.in-Some.code.now vs args) args c.args.span w) own (sym o) in
     ends_as view_of c.call_function.result c.call_function.new.world _ _ (v ∙ i ∙ k) c.call_function.ensures.means
 
 pub calls::call_function-returns-in_err-end-in-Block-clause-means : goal.calls::call_function-returns-in_err-end-in-Block-clause-means
@@ -161,7 +164,7 @@ calls::call_function-returns-in_ok-end-in-Block-clause-means t c =
 
 pub listeners::eval_part-returns : goal.listeners::eval_part-returns
 listeners::eval_part-returns t c =
-    part_is c.args.program.now c.args.view.now c.args.code.now c.inst.result.number c.eval.result c.in_ok-locals.locals c.eval.new.locals c.in_ok-world.world c.eval.new.world c.in_ok-world.ensures (c.in_ok-locals.ensures ∙ ap shown (c.as_slice.ensures ∙ c.locals.ensures)) c.inst.ensures c.eval.ensures.means
+    part_is c.args.program.now c.args.view.now c.args.part.now c.inst.result.number c.eval.result c.in_ok-locals.locals c.eval.new.locals c.in_ok-world.world c.eval.new.world c.in_ok-world.ensures (c.in_ok-locals.ensures ∙ ap shown (c.as_slice.ensures ∙ c.locals.ensures)) c.inst.ensures c.eval.ensures.means
 
 pub listeners::tell_part-returns-in_err-value-clause-means : goal.listeners::tell_part-returns-in_err-value-clause-means
 listeners::tell_part-returns-in_err-value-clause-means t c =
@@ -216,7 +219,7 @@ values::eval_kind-returns-in-Call-clause-means t c =
 pub values::eval_kind-returns-in-Dispatcher-clause-means : goal.values::eval_kind-returns-in-Dispatcher-clause-means
 values::eval_kind-returns-in-Dispatcher-clause-means t c =
     let ctx = c.args.context.now in
-    let e = ap (λ x. x.means c.args.locals.now c.args.world.now) (dispatcher_is ctx c.args.kind.now c.in-Dispatcher.number c.in-Dispatcher.args c.args.span c.in-Dispatcher.is) in
+    let e = ap (λ x. x.means c.args.locals.now c.args.world.now) (dispatcher_is ctx c.args.kind.now c.in-Dispatcher.number c.in-Dispatcher.at c.in-Dispatcher.args c.args.span c.in-Dispatcher.is) in
     gives_as view_of c.eval_dispatcher.result c.eval_dispatcher.new.locals c.eval_dispatcher.new.world _ _ e (rw c.as_slice-in-Dispatcher.ensures at c.eval_dispatcher.ensures.means)
 
 pub values::eval_kind-returns-in_err-made-in-List-clause-means : goal.values::eval_kind-returns-in_err-made-in-List-clause-means
@@ -224,7 +227,7 @@ values::eval_kind-returns-in_err-made-in-List-clause-means t c =
     let ctx = c.args.context.now in
     let inner = parts_after c.args.span [] (map (item_in ctx) c.in-List.parts) in
     let e = ap (λ x. x.means c.args.locals.now c.args.world.now) (list_is ctx c.args.kind.now c.in-List.parts c.args.span c.in-List.is) in
-    err_exit (λ us. map view_of us.items) view_of c.eval_items.result c.in_err-made-in-List.field-0.0 c.from_residual-in_err-made-in-List.result c.eval_items.new.locals c.eval_items.new.world (inner c.args.locals.now c.args.world.now) _ c.in_err-made-in-List.was c.from_residual-in_err-made-in-List.ensures.1 (rw c.as_slice.ensures at c.eval_items.ensures.means)
+    err_exit (λ us. map view_of us.items) view_of c.eval_items.result c.in_err-made-in-List.field-0.0 c.from_residual.result c.eval_items.new.locals c.eval_items.new.world (inner c.args.locals.now c.args.world.now) _ c.in_err-made-in-List.was c.from_residual.ensures.1 (rw c.as_slice.ensures at c.eval_items.ensures.means)
     (λ k s f. e ∙ ap (λ o. and_then o (λ vs. doing (answered c.args.span (list_made vs)))) f)
 
 pub values::eval_kind-returns-in_ok-made-in-List-clause-means : goal.values::eval_kind-returns-in_ok-made-in-List-clause-means
@@ -234,8 +237,8 @@ values::eval_kind-returns-in_ok-made-in-List-clause-means t c =
     let e = ap (λ x. x.means c.args.locals.now c.args.world.now) (list_is ctx c.args.kind.now c.in-List.parts c.args.span c.in-List.is) in
     let d = gave (λ us. map view_of us.items) c.eval_items.result c.in_ok-made-in-List.made c.eval_items.new.locals c.eval_items.new.world (inner c.args.locals.now c.args.world.now) c.in_ok-made-in-List.was (rw c.as_slice.ensures at c.eval_items.ensures.means) in
     let a = list_made (map view_of c.in_ok-made-in-List.made.items) in
-    gives_as view_of c.answer.result c.eval_items.new.locals c.answer.new.world _ _ (e ∙ ap (λ o. and_then o (λ vs. doing (answered c.args.span (list_made vs)))) d)
-    (ends_kept view_of c.answer.result c.eval_items.new.locals c.answer.new.world (answered c.args.span a c.eval_items.new.world) (c.answer.ensures.answers a (c.list_of.ensures)))
+    gives_as view_of c.answer-in-List.result c.eval_items.new.locals c.answer-in-List.new.world _ _ (e ∙ ap (λ o. and_then o (λ vs. doing (answered c.args.span (list_made vs)))) d)
+    (ends_kept view_of c.answer-in-List.result c.eval_items.new.locals c.answer-in-List.new.world (answered c.args.span a c.eval_items.new.world) (c.answer-in-List.ensures.answers a (c.list_of.ensures)))
 
 pub values::eval_kind-returns-in_err-made-in-Object-clause-means : goal.values::eval_kind-returns-in_err-made-in-Object-clause-means
 values::eval_kind-returns-in_err-made-in-Object-clause-means t c =
@@ -255,23 +258,11 @@ values::eval_kind-returns-in_ok-made-in-Object-clause-means t c =
     gives_as view_of c.answer-in-Object.result c.eval_fields.new.locals c.answer-in-Object.new.world _ _ (e ∙ ap (λ o. and_then o (λ vs. doing (answered c.args.span (object_made vs)))) d)
     (ends_kept view_of c.answer-in-Object.result c.eval_fields.new.locals c.answer-in-Object.new.world (answered c.args.span a c.eval_fields.new.world) (c.answer-in-Object.ensures.answers a (c.object_of.ensures)))
 
-pub values::eval_kind-returns-in_err-values-in-Template-clause-means : goal.values::eval_kind-returns-in_err-values-in-Template-clause-means
-values::eval_kind-returns-in_err-values-in-Template-clause-means t c =
+pub values::eval_kind-returns-in-Template-clause-means : goal.values::eval_kind-returns-in-Template-clause-means
+values::eval_kind-returns-in-Template-clause-means t c =
     let ctx = c.args.context.now in
-    let inner = all_values (map (expr_in ctx) c.in-Template.parts) in
     let e = ap (λ x. x.means c.args.locals.now c.args.world.now) (template_is ctx c.args.kind.now c.in-Template.parts c.args.span c.in-Template.is) in
-    err_exit (λ us. map view_of us.items) view_of c.eval_all.result c.in_err-values-in-Template.field-0.0 c.from_residual-in_err-values-in-Template.result c.eval_all.new.locals c.eval_all.new.world (inner c.args.locals.now c.args.world.now) _ c.in_err-values-in-Template.was c.from_residual-in_err-values-in-Template.ensures.1 (rw c.as_slice-in-Template.ensures at c.eval_all.ensures.means)
-    (λ k s f. e ∙ ap (λ o. and_then o (λ vs. doing (answered c.args.span (template vs)))) f)
-
-pub values::eval_kind-returns-in_ok-values-in-Template-clause-means : goal.values::eval_kind-returns-in_ok-values-in-Template-clause-means
-values::eval_kind-returns-in_ok-values-in-Template-clause-means t c =
-    let ctx = c.args.context.now in
-    let inner = all_values (map (expr_in ctx) c.in-Template.parts) in
-    let e = ap (λ x. x.means c.args.locals.now c.args.world.now) (template_is ctx c.args.kind.now c.in-Template.parts c.args.span c.in-Template.is) in
-    let d = gave (λ us. map view_of us.items) c.eval_all.result c.in_ok-values-in-Template.values c.eval_all.new.locals c.eval_all.new.world (inner c.args.locals.now c.args.world.now) c.in_ok-values-in-Template.was (rw c.as_slice-in-Template.ensures at c.eval_all.ensures.means) in
-    let a = template (map view_of c.in_ok-values-in-Template.values.items) in
-    gives_as view_of c.answer-in-Template.result c.eval_all.new.locals c.answer-in-Template.new.world _ _ (e ∙ ap (λ o. and_then o (λ vs. doing (answered c.args.span (template vs)))) d)
-    (ends_kept view_of c.answer-in-Template.result c.eval_all.new.locals c.answer-in-Template.new.world (answered c.args.span a c.eval_all.new.world) (c.answer-in-Template.ensures.answers a (rw c.deref.ensures.value at c.template.ensures)))
+    gives_as view_of c.eval_template.result c.eval_template.new.locals c.eval_template.new.world _ _ e (rw c.as_slice-in-Template.ensures at c.eval_template.ensures.means)
 
 pub statements::run_loop-loop-init : goal.statements::run_loop-loop-init
 statements::run_loop-loop-init t c =

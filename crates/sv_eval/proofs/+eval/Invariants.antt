@@ -5,7 +5,7 @@ use Rattle.sv_meaning.specs.Calls.{visited}
 use Rattle.sv_meaning.specs.Context.{calls_of, expr_in, item_in, field_in, link_in, run_in, arm_in, decl_in, valued_in}
 use Rattle.sv_meaning.specs.Listeners.{onward, heard_by}
 use Rattle.sv_meaning.specs.Statements.{in_order, first_of, turns, item_turns}
-use Rattle.sv_meaning.specs.Values.{all_values, all_after, parts_after, chained}
+use Rattle.sv_meaning.specs.Values.{all_values, all_after, all_texts, texts_after, parts_after, chained}
 use Rattle.sv_eval.proofs.Measure.{budget}
 use Rattle.sv_eval.proofs.+eval.Given as goal
 
@@ -29,6 +29,12 @@ decreases-statements::declare_all l = budget l.context.now l.world.now 3
 
 abbrev pub decreases-values::eval_all : goal.decreases-values::eval_all
 decreases-values::eval_all l = budget l.context.now l.world.now 1
+
+abbrev pub decreases-values::eval_texts : goal.decreases-values::eval_texts
+decreases-values::eval_texts l = budget l.context.now l.world.now 1
+
+abbrev pub decreases-values::eval_template : goal.decreases-values::eval_template
+decreases-values::eval_template l = budget l.context.now l.world.now 2
 
 abbrev pub decreases-values::eval_link : goal.decreases-values::eval_link
 decreases-values::eval_link l = budget l.context.now l.world.now 1
@@ -177,6 +183,12 @@ decreases-listeners::eval_part l = 1024 * 100048 + 1
 abbrev pub invariant-values::eval_all-loop-code : goal.invariant-values::eval_all-loop-code
 invariant-values::eval_all-loop-code l = record {
   same : all_values (map (expr_in l.context) l.codes) l.fn.locals l.fn.world ≡ all_after (map view_of l.values.items) (map (λ e. e.means) (map (expr_in l.context) (drop l.code-index l.codes))) l.locals l.world;
+  fewer : l.world.turn.steps ≤ l.fn.world.turn.steps;
+}
+
+abbrev pub invariant-values::eval_texts-loop-part : goal.invariant-values::eval_texts-loop-part
+invariant-values::eval_texts-loop-part l = record {
+  same : all_texts l.span (map (expr_in l.context) l.parts) l.fn.locals l.fn.world ≡ texts_after l.span l.texts.items (map (λ e. e.means) (map (expr_in l.context) (drop l.part-index l.parts))) l.locals l.world;
   fewer : l.world.turn.steps ≤ l.fn.world.turn.steps;
 }
 
