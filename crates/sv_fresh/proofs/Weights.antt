@@ -18,14 +18,12 @@ use Rattle.sv_code.specs.declared.program.FileCode.TheVariants as code
 use Rattle.sv_code.specs.declared.program.Program.{Program}
 use Rattle.sv_code.specs.declared.program.ProgramFile.{ProgramFile}
 use Rattle.sv_code.specs.declared.tags.Tag.{Tag}
-use Rattle.sv_fresh.specs.Blocks.{chosen}
 use Rattle.sv_fresh.specs.Scene.{Page, Scene, Tags, markup_at}
-use Rattle.sv_fresh.specs.Values.{holds_at}
 use Rattle.sv_instance.specs.declared.instance.Instance.{Instance}
 use Rattle.sv_plan.specs.Content.{Content, Opened, content_at, content_of, content_named, named_as, or_else, is_empty, has_default, outer_tags}
+use Rattle.sv_plan.specs.Plan.{body_in}
 use Rattle.sv_meaning.specs.Components.{component_in, component_for, markup_of}
 use Rattle.sv_states.specs.States.{live}
-use Rattle.sv_view.specs.Level.{View}
 
 -- ---- fragments
 
@@ -104,19 +102,12 @@ item-weight [] i f lt is = absurd (omega arith)
 item-weight (x ∷ xs) zero f lt is = rw is (omega arith)
 item-weight (x ∷ xs) (suc i) f lt is = let h : weight f < total (map weight xs) = item-weight xs i f (omega arith) is in omega arith
 
-choice-weight : (b : Bool) (n : ℕ) (xs ys : List Frag) → weights xs ≤ n → weights ys ≤ n → weights (if b then xs else ys) ≤ n
-choice-weight true n xs ys h k = h
-choice-weight false n xs ys h k = k
-
--- so does the branch that is chosen
-pub chosen-weight : (p : Program) (v : View) (arms : List FragArm) (last : List Frag) →
-    weights (chosen p v (map (λ a. (a.test, a.body)) arms) last) ≤ arms_weight arms + weights last
+-- so does the content of a branch
+pub body-weight : (arms : List FragArm) (last : List Frag) (i : ℕ) → weights (body_in arms last i) ≤ arms_weight arms + weights last
 unfolding arms_weight
-chosen-weight p v [] last = omega arith
-chosen-weight p v (a ∷ arms) last =
-    let e : weight_of a ≡ weights a.body = arm-out a in
-    let h : weights (chosen p v (map (λ a. (a.test, a.body)) arms) last) ≤ total (map weight_of arms) + weights last = chosen-weight p v arms last in
-    choice-weight (holds_at p v a.test) _ a.body (chosen p v (map (λ a. (a.test, a.body)) arms) last) (omega arith) (omega arith)
+body-weight [] last i = omega arith
+body-weight (a ∷ arms) last zero = let e : weight_of a ≡ weights a.body = arm-out a in omega arith
+body-weight (a ∷ arms) last (suc i) = let h : weights (body_in arms last i) ≤ total (map weight_of arms) + weights last = body-weight arms last i in omega arith
 
 -- ---- the whole program
 

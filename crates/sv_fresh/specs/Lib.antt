@@ -1,11 +1,8 @@
-pub mod Each
 pub mod Values
-pub mod Words
-pub mod Attr
-pub mod Class
-pub mod Attributes
 pub mod Listeners
 pub mod Slots
 pub mod Blocks
+pub mod States
+pub mod Sources
 pub mod Scene
 pub mod Fresh

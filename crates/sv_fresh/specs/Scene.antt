@@ -4,13 +4,16 @@ use Rattle.std.specs.Option.{option_map_or}
 use Rattle.sv_code.specs.declared.fragments.Frag.{Frag}
 use Rattle.sv_code.specs.declared.program.Program.{Program}
 use Rattle.sv_fresh.specs.declared.scene.Scene as handed
+use Rattle.sv_fresh.specs.declared.source.Source.{Source}
 use Rattle.sv_meaning.specs.Components.{component_of, markup_of}
 use Rattle.sv_shapes.specs.Showing.{Showing, shown_of}
 use Rattle.sv_shapes.specs.declared.shape.Shape.{Shape}
 use Rattle.sv_world.specs.declared.world.World.{World}
 
--- a program, the present states, what is recorded as shown, and the number of the instance in whose shape is drawn
+-- from where what is shown is taken, a program, the present states, what is recorded as shown, and the number of the instance in whose shape is
+-- drawn
 pub record Page : Type 0 where
+  pub source : Source
   pub program : Program
   pub world : World
   pub showing : Showing
@@ -32,7 +35,7 @@ pub record Scene : Type 0 where
 
 -- the scene that code is handed
 abbrev pub seen : handed.Scene → Scene
-seen s = record { page = record { program = s.program.now; world = s.world.now; showing = s.showing.now; inst = s.inst.number }; room = s.room; tags = s.tags.now }
+seen s = record { page = record { source = s.source; program = s.program.now; world = s.world.now; showing = s.showing.now; inst = s.inst.number }; room = s.room; tags = s.tags.now }
 
 -- ---- instances
 

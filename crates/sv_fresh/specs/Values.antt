@@ -2,12 +2,13 @@
 use Rattle.std.specs.Prelude.{Bool, false, List, [], ◌∷◌, ◌++◌, Option, Some, None, option_map, ℕ}
 use Rattle.std.specs.Option.{option_and_then}
 use Rattle.std.specs.Result.{result_ok}
+use Rattle.sv_attributes.specs.Values.{alone}
 use Rattle.sv_code.specs.declared.fragments.FragValuePart.{FragValuePart}
 use Rattle.sv_code.specs.declared.fragments.FragValuePart.TheVariants as value_part
 use Rattle.sv_code.specs.declared.parts.Part.{Part}
 use Rattle.sv_code.specs.declared.program.Program.{Program}
 use Rattle.sv_meaning.specs.Parts.{part_value}
-use Rattle.sv_parts.specs.Values.{alone}
+use Rattle.sv_ops.specs.Texts.{between}
 use Rattle.sv_value.specs.Change.{truthy}
 use Rattle.sv_value.specs.Value.{Val, text}
 use Rattle.sv_value.specs.Words.{text_of}
@@ -15,7 +16,7 @@ use Rattle.sv_view.specs.Level.{View}
 
 -- the value of an expression
 unfoldable pub value_at : Program → View → Part → Option Val
-value_at p v part = result_ok (part_value p v part.code)
+value_at p v part = result_ok (part_value p v part)
 
 -- its text, if it has one
 abbrev pub text_at : Program → View → Part → Option (List ℕ)
@@ -37,13 +38,16 @@ abbrev pub piece_text : Program → View → FragValuePart → Option (List ℕ)
 piece_text p v (value_part.Text t) = Some t
 piece_text p v (value_part.Show part) = text_at p v part
 
--- the texts of parts joined behind a text, where each has one
-abbrev pub joined_after : Program → View → List ℕ → List FragValuePart → Option (List ℕ)
-joined_after p v before [] = Some before
-joined_after p v before (x ∷ xs) = option_and_then (λ t. joined_after p v (before ++ t) xs) (piece_text p v x)
+-- the texts of parts behind some, where each has one
+abbrev pub texts_after : Program → View → List (List ℕ) → List FragValuePart → Option (List (List ℕ))
+texts_after p v texts [] = Some texts
+texts_after p v texts (x ∷ xs) = option_and_then (λ t. texts_after p v (texts ++ t ∷ []) xs) (piece_text p v x)
+
+abbrev pub texts_at : Program → View → List FragValuePart → Option (List (List ℕ))
+texts_at p v parts = texts_after p v [] parts
 
 abbrev pub value_by : Program → View → List FragValuePart → Option Part → Option Val
-value_by p v parts None = option_map text (joined_after p v [] parts)
+value_by p v parts None = option_map (λ texts. text (between [] texts)) (texts_at p v parts)
 value_by p v parts (Some part) = value_at p v part
 
 -- one expression alone passes its value, else the texts of the parts are joined

@@ -1,36 +1,27 @@
 // Fragments, drawn.
 ghost use Rattle.std.specs.Prelude.{◌≡◌, ◌<◌, ◌++◌, ◌∷◌, [], length, Some, map, option_copied, slice_get, IfOk, OnOk};
-ghost use Rattle.sv_base.specs.declared.limits.TheConstants.{VALUE_SIZE_LIMIT};
 ghost use Rattle.sv_document.specs.declared.tree.Node.TheVariants as node;
 ghost use Rattle.sv_plan.specs.Content.{seen as content_seen};
 ghost use Rattle.sv_shapes.specs.Shapes.{opened};
-ghost use Rattle.sv_value.specs.View.{view_of};
-ghost use Rattle.sv_fresh.specs.Blocks.{items_in as items_of};
+ghost use Rattle.sv_plan.specs.Lists.{head_of};
 ghost use Rattle.sv_fresh.specs.Scene.{seen};
-ghost use Rattle.sv_fresh.specs.Values.{value_at as value_found};
+ghost use Rattle.sv_fresh.specs.Sources.{items_by as items_found};
 ghost use Rattle.sv_fresh.specs.Fresh as spec;
 
-use crate::blocks::{RowNames, branch, chosen, items_in, row_parts, row_view};
+use crate::blocks::row_parts;
 use crate::nodes::{element, show, text_node};
 use crate::scene::{Here, Scene, markup_at, parts_at};
-use crate::slots::props;
-use crate::values::value_at;
+use crate::source::{arm_by, items_by, props_by, view_by};
 use sv_base::NoMemory;
-use sv_code::{Frag, FragAttr, Part};
+use sv_code::{Frag, FragAttr};
 use sv_document::{Element, Node, Nodes};
 use sv_list::Items;
-use sv_plan::{Content, content_at, content_view, outer_tags};
-use sv_shapes::{Row, Shape, mark_of, parts_of, place_of, rows_of};
-use sv_value::{Inst, Value};
+use sv_plan::{
+    Content, EachBlock, Spot, body_of, content_at, content_view, frags_of, outer_tags, row_view,
+};
+use sv_shapes::{Held, Row, Shape, mark_of, parts_of, place_of, rows_of};
+use sv_value::Inst;
 use sv_view::View;
-
-// What an each block shows: the content of each row, and the branch for none.
-#[derive(Clone, Copy)]
-struct Rows<'a> {
-    names: RowNames,
-    body: &'a [Frag],
-    none: &'a [Frag],
-}
 
 fn shape_at(shapes: &[Shape], index: usize) -> Option<&Shape>
     ensures { option_copied result ≡ slice_get shapes.now index }
@@ -62,11 +53,11 @@ fn draw(
     shape: Option<&Shape>,
     nodes: &mut Nodes,
 ) -> Result<(), NoMemory>
-    ensures { OnOk result (nodes.new ≡ nodes.old ++ spec.drawn (seen here.now.scene.now) frag.now here.now.view.now (option_copied shape.entry)) }
+    ensures { OnOk result (nodes.new ≡ nodes.old ++ spec.frag_drawn (seen here.now.scene.now) frag.now here.now.view.now (option_copied shape.entry)) }
 {
     match frag {
         Frag::Text(text) => nodes.push(text_node(mark_of(shape), text.share()?)),
-        Frag::Show(part) => show(here, part, mark_of(shape), nodes),
+        Frag::Show(part) => show(here, part, shape, nodes),
         Frag::Element {
             name,
             attrs,
@@ -84,32 +75,31 @@ fn draw(
             own,
             ..
         } => match content_at(here.scene.program, here.scene.tags, name.as_str()) {
-            Some(content) => {
-                draw_content(here, &content, attrs.as_slice(), parts_of(shape), nodes)
-            }
+            Some(content) => draw_content(here, &content, attrs.as_slice(), shape, nodes),
             None => draw_all(here, own.as_slice(), parts_of(shape), nodes),
         },
         Frag::If { arms, last } => {
-            let body = chosen(here, arms.as_slice(), branch(last.as_ref()))?;
+            let arm = arm_by(here, arms.as_slice(), shape)?;
+            let body = body_of(arms.as_slice(), frags_of(last.as_ref()), arm);
             draw_all(here, body, parts_of(shape), nodes)
         }
         Frag::Each {
             list,
             item,
             index,
+            key,
             body,
             none,
-            ..
         } => {
-            let rows = Rows {
-                names: RowNames {
-                    item: *item,
-                    index: *index,
-                },
+            let block = EachBlock {
+                list,
+                item: *item,
+                index: *index,
+                key: key.as_ref(),
                 body: body.as_slice(),
-                none: branch(none.as_ref()),
+                none: frags_of(none.as_ref()),
             };
-            draw_list(here, &rows, list, shape, nodes)
+            draw_list(here, &block, shape, nodes)
         }
         Frag::Key { body, .. } => draw_all(here, body.as_slice(), parts_of(shape), nodes),
     }
@@ -135,19 +125,17 @@ fn draw_children(
 #[cycle(draw)]
 fn draw_list(
     here: &Here<'_>,
-    rows: &Rows<'_>,
-    list: &Part,
+    block: &EachBlock<'_>,
     shape: Option<&Shape>,
     nodes: &mut Nodes,
 ) -> Result<(), NoMemory>
-    ensures { OnOk result (nodes.new ≡ nodes.old ++ spec.list_nodes rows.now.names (spec.drawn_all (seen here.now.scene.now) rows.now.body.now) (spec.drawn_all (seen here.now.scene.now) rows.now.none.now) here.now.view.now (opened (option_copied shape.entry)) (items_of (value_found here.now.scene.now.program.now here.now.view.now list.now))) }
+    ensures { OnOk result (nodes.new ≡ nodes.old ++ spec.list_nodes (head_of block.now) (spec.drawn_all (seen here.now.scene.now) block.now.body.now) (spec.drawn_all (seen here.now.scene.now) block.now.none.now) here.now.view.now (opened (option_copied shape.entry)) (items_found here.now.scene.now.source here.now.scene.now.program.now block.now.list.now here.now.view.now (opened (option_copied shape.entry)))) }
 {
-    let value = value_at(here, list)?;
-    let items = items_in(value.as_ref());
+    let items = items_by(here, block.list, shape)?;
     if items.is_empty() {
-        draw_all(here, rows.none, parts_of(shape), nodes)
+        draw_all(here, block.none, parts_of(shape), nodes)
     } else {
-        draw_rows(here, rows, items, rows_of(shape), nodes)
+        draw_rows(here, block, items.as_slice(), rows_of(shape), nodes)
     }
 }
 
@@ -155,20 +143,24 @@ fn draw_list(
 #[cycle(draw)]
 fn draw_rows(
     here: &Here<'_>,
-    rows: &Rows<'_>,
-    items: &[Value],
+    block: &EachBlock<'_>,
+    items: &[Held],
     shapes: &[Row],
     nodes: &mut Nodes,
 ) -> Result<(), NoMemory>
-    requires { length items.now < VALUE_SIZE_LIMIT }
-    ensures { OnOk result (nodes.new ≡ nodes.old ++ spec.rows_nodes rows.now.names (spec.drawn_all (seen here.now.scene.now) rows.now.body.now) here.now.view.now shapes.now (map view_of items.now)) }
+    ensures { OnOk result (nodes.new ≡ nodes.old ++ spec.rows_nodes (head_of block.now) (spec.drawn_all (seen here.now.scene.now) block.now.body.now) here.now.view.now shapes.now items.now) }
 {
     for index in 0..items.len() {
-        let view = row_view(here, rows.names, &items[index], index)?;
+        let spot = Spot {
+            list: 0,
+            index,
+            item: items[index].get(),
+        };
+        let view = row_view(block, &spot, here.view)?;
         draw_on(
             here.scene,
             &view,
-            rows.body,
+            block.body,
             row_parts(shapes, index),
             nodes,
         )?;
@@ -200,18 +192,18 @@ fn draw_content(
     here: &Here<'_>,
     content: &Content<'_>,
     attrs: &[FragAttr],
-    shapes: &[Shape],
+    shape: Option<&Shape>,
     nodes: &mut Nodes,
 ) -> Result<(), NoMemory>
-    ensures { OnOk result (nodes.new ≡ nodes.old ++ spec.content_drawn (seen here.now.scene.now) (content_seen content.now) attrs.now here.now.view.now shapes.now) }
+    ensures { OnOk result (nodes.new ≡ nodes.old ++ spec.content_drawn (seen here.now.scene.now) (content_seen content.now) attrs.now here.now.view.now (opened (option_copied shape.entry))) }
 {
-    let given = props(here, attrs)?;
+    let given = props_by(here, attrs, shape)?;
     let view = content_view(content.lets, given.as_slice(), here.view)?;
     let scene = Scene {
         tags: outer_tags(here.scene.tags),
         ..*here.scene
     };
-    draw_on(&scene, &view, content.frags, shapes, nodes)
+    draw_on(&scene, &view, content.frags, parts_of(shape), nodes)
 }
 
 // Adds the nodes of the child at a place, if one stands there, by the number of its tag.
@@ -248,7 +240,7 @@ fn tags_below(scene: &Scene<'_>, tag: u32) -> Result<Items<Option<u32>>, NoMemor
     Ok(tags)
 }
 
-/// Adds the nodes of an instance on its own view before its owner's; none where it isn't live, or stands too deep.
+/// Adds the nodes of an instance on its own view before its owner's; none where it has no view, or stands too deep.
 #[cycle(draw)]
 pub fn draw_instance(
     scene: &Scene<'_>,
@@ -261,7 +253,7 @@ pub fn draw_instance(
     let Some(room) = scene.room.checked_sub(1) else {
         return Ok(());
     };
-    let Some(view) = scene.world.present_before(scene.alloc, inst, owner)? else {
+    let Some(view) = view_by(scene, inst, owner)? else {
         return Ok(());
     };
     let inside = Scene {

@@ -1,18 +1,17 @@
 // Texts and elements.
 ghost use Rattle.std.specs.Prelude.{◌≡◌, ◌++◌, option_copied, IfOk, OnOk};
-ghost use Rattle.sv_shapes.specs.Shapes.{opened};
+ghost use Rattle.sv_shapes.specs.Shapes.{opened, mark_in};
 ghost use Rattle.sv_fresh.specs.Fresh as spec;
 ghost use Rattle.sv_fresh.specs.Scene.{seen};
-ghost use Rattle.sv_fresh.specs.Values.{text_at as text_found};
+ghost use Rattle.sv_fresh.specs.Sources.{text_by as text_found};
 
-use crate::attributes::attributes;
 use crate::listeners::listeners;
 use crate::scene::Here;
-use crate::values::text_at;
+use crate::source::{attributes_by, text_by};
 use sv_base::{NoMemory, Text};
 use sv_code::{FragAttr, Part};
 use sv_document::{Element, Node, Nodes};
-use sv_shapes::{Shape, element_of, typed_of};
+use sv_shapes::{Shape, element_of, mark_of, typed_of};
 use sv_tokens::Typed;
 
 /// A text with its mark, if it has one.
@@ -29,13 +28,13 @@ pub fn text_node(mark: Option<u64>, text: Text) -> Node
 pub fn show(
     here: &Here<'_>,
     part: &Part,
-    mark: Option<u64>,
+    shape: Option<&Shape>,
     nodes: &mut Nodes,
 ) -> Result<(), NoMemory>
-    ensures { OnOk result (nodes.new ≡ nodes.old ++ spec.shown_text mark (text_found here.now.scene.now.program.now here.now.view.now part.now)) }
+    ensures { OnOk result (nodes.new ≡ nodes.old ++ spec.shown_text (mark_in (opened (option_copied shape.entry))) (text_found here.now.scene.now.source here.now.scene.now.program.now part.now here.now.view.now (opened (option_copied shape.entry)))) }
 {
-    match text_at(here, part)? {
-        Some(text) => nodes.push(text_node(mark, text)),
+    match text_by(here, part, shape)? {
+        Some(text) => nodes.push(text_node(mark_of(shape), text)),
         None => Ok(()),
     }
 }
@@ -61,7 +60,7 @@ pub fn element(
 {
     let typed = share_typed(typed_of(shape))?;
     let name = name.share()?;
-    let attributes = attributes(here, attrs)?;
+    let attributes = attributes_by(here, attrs, shape)?;
     let listeners = listeners(here, attrs)?;
     Ok(Element {
         inst: here.scene.inst,

@@ -2,6 +2,7 @@
 ghost use Rattle.std.specs.Prelude.{◌≡◌, option_copied};
 ghost use Rattle.sv_fresh.specs.Scene as spec;
 
+use crate::source::Source;
 use std::alloc::Global;
 use sv_code::{Frag, Program};
 use sv_meaning::{component_of, markup_of};
@@ -10,12 +11,13 @@ use sv_value::Inst;
 use sv_view::View;
 use sv_world::World;
 
-/// The program; the present states; what is recorded as shown; the instance in whose shape is drawn; how deep components may still stand below;
+/// From where what is shown is taken; the program; the present states; what is recorded as shown; the instance in whose shape is drawn; how deep components may still stand below;
 /// and for each level of the view that is drawn on, its own first, the number of the tag with which that instance stands in its owner's markup.
 /// What is made takes its memory from `alloc`.
 #[derive(Clone, Copy)]
 pub struct Scene<'a> {
     pub alloc: Global,
+    pub source: Source,
     pub program: &'a Program,
     pub world: &'a World,
     pub showing: &'a Showing,

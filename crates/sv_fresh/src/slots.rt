@@ -21,8 +21,8 @@ fn passed_value(here: &Here<'_>, value: &FragValue) -> Result<Option<Held>, NoMe
     }
 }
 
-// A prop with a value.
-fn prop_with(alloc: Global, name: Name, value: Held) -> SlotProp
+/// A prop with a value.
+pub fn prop_with(alloc: Global, name: Name, value: Held) -> SlotProp
     ensures { result ≡ spec.prop_with name value }
 {
     SlotProp {

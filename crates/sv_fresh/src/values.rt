@@ -1,17 +1,18 @@
 // What the expressions of markup give now.
-ghost use Rattle.std.specs.Prelude.{◌≡◌, [], IfOk};
+ghost use Rattle.std.specs.Prelude.{◌≡◌, None, IfOk};
 ghost use Rattle.sv_value.specs.View.{view_of};
 ghost use Rattle.sv_value.specs.Words.{text_of as text_found};
 ghost use Rattle.sv_fresh.specs.Values as spec;
 
 use crate::scene::Here;
 use std::alloc::Global;
+use sv_attributes::{alone, joined};
 use sv_base::{NoMemory, Text};
 use sv_code::{FragValuePart, Part};
 use sv_eval::eval_part;
+use sv_list::Items;
 use sv_meaning::EvalError;
-use sv_parts::alone;
-use sv_shapes::Held;
+use sv_shapes::{Held, Texts};
 use sv_value::{Value, ValueFault, text_of, truthy};
 
 /// The value of an expression, or none where it faults.
@@ -19,15 +20,15 @@ use sv_value::{Value, ValueFault, text_of, truthy};
 pub fn value_at(here: &Here<'_>, part: &Part) -> Result<Option<Held>, NoMemory>
     ensures { IfOk result (λ value. value ≡ spec.value_at here.now.scene.now.program.now here.now.view.now part.now) }
 {
-    match eval_part(here.scene.alloc, here.scene.program, here.view, &part.code) {
+    match eval_part(here.scene.alloc, here.scene.program, here.view, part) {
         Ok(value) => Ok(Some(Held::new(value))),
         Err(EvalError::Fault(_)) => Ok(None),
         Err(EvalError::NoMemory) => Err(NoMemory),
     }
 }
 
-/// The text of a value, if it has one.
-pub fn spell(alloc: Global, value: &Value) -> Result<Option<Text>, NoMemory>
+// The text of a value, if it has one.
+fn spell(alloc: Global, value: &Value) -> Result<Option<Text>, NoMemory>
     ensures { IfOk result (λ text. text ≡ text_found (view_of value.now)) }
 {
     match text_of(alloc, value) {
@@ -67,18 +68,31 @@ fn piece_text(here: &Here<'_>, piece: &FragValuePart) -> Result<Option<Text>, No
     }
 }
 
-// The texts of the parts, joined.
-fn join(here: &Here<'_>, pieces: &[FragValuePart]) -> Result<Option<Text>, NoMemory>
-    ensures { IfOk result (λ text. text ≡ spec.joined_after here.now.scene.now.program.now here.now.view.now [] pieces.now) }
+/// The texts of the parts of a value, if each has one.
+pub fn texts_at(here: &Here<'_>, pieces: &[FragValuePart]) -> Result<Option<Texts>, NoMemory>
+    ensures { IfOk result (λ texts. texts ≡ spec.texts_at here.now.scene.now.program.now here.now.view.now pieces.now) }
 {
-    let mut whole = String::new(here.scene.alloc);
+    let mut texts = Items::new(here.scene.alloc);
     for piece in pieces {
         match piece_text(here, piece)? {
-            Some(text) => whole.push_str(text.as_str())?,
+            Some(text) => texts.push(text)?,
             None => return Ok(None),
         }
     }
-    Ok(Some(Text::new(here.scene.alloc, whole.as_str())?))
+    Ok(Some(texts))
+}
+
+// The texts of the parts, joined, if each has one.
+fn whole_text(here: &Here<'_>, pieces: &[FragValuePart]) -> Result<Option<Held>, NoMemory>
+    ensures { IfOk result (λ value. value ≡ spec.value_by here.now.scene.now.program.now here.now.view.now pieces.now None) }
+{
+    match texts_at(here, pieces)? {
+        Some(texts) => {
+            let whole = joined(here.scene.alloc, "", texts.as_slice())?;
+            Ok(Some(Held::new(Value::Text(whole))))
+        }
+        None => Ok(None),
+    }
 }
 
 /// The value of parts: that of one expression alone, or else their texts, joined.
@@ -87,9 +101,6 @@ pub fn parts_value(here: &Here<'_>, pieces: &[FragValuePart]) -> Result<Option<H
 {
     match alone(pieces) {
         Some(part) => value_at(here, part),
-        None => match join(here, pieces)? {
-            Some(text) => Ok(Some(Held::new(Value::Text(text)))),
-            None => Ok(None),
-        },
+        None => whole_text(here, pieces),
     }
 }

@@ -1,5 +1,5 @@
 -- What is handed from one step of a plan to the next.
-use Rattle.std.specs.Prelude.{◌≡◌, ℕ, suc, ◌+◌, ◌-◌, nat_le, Bool, true, false, List, [], ◌∷◌, ◌++◌, map, Result, Ok, Err, if◌then◌else◌}
+use Rattle.std.specs.Prelude.{◌≡◌, ℕ, suc, ◌+◌, ◌-◌, nat_le, List, [], ◌∷◌, ◌++◌, map, Result, Ok, Err, if◌then◌else◌}
 use Rattle.sv_parts.specs.declared.refusal.PatchError.{PatchError}
 use Rattle.sv_parts.specs.declared.refusal.PatchError.TheVariants.{Refused, NoMemory}
 use Rattle.sv_parts.specs.declared.refusal.Refusal.{Refusal}
@@ -52,11 +52,6 @@ remembered kept s = Ok (tt, record s { kept = s.kept ++ kept ∷ [] })
 -- the children at the places of component tags in some shapes go, in document order
 abbrev pub destroyed : List Shape → Run (Unit {0})
 destroyed parts s = Ok (tt, record s { effects = s.effects ++ map Destroy (places_all parts) })
-
--- a step that is taken or not
-abbrev pub when : Bool → Run (Unit {0}) → Run (Unit {0})
-when true step s = step s
-when false step s = Ok (tt, s)
 
 -- a step for each item in turn, with its number, and what each gave, one behind the other
 abbrev pub each : {A B : Type 0} → (A → ℕ → Run (List B)) → ℕ → List A → Run (List B)

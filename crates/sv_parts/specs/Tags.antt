@@ -1,5 +1,5 @@
 -- Component tags: what they pass to their component, and the effects on the child that stands there.
-use Rattle.std.specs.Prelude.{ℕ, Bool, true, false, ◌&&◌, nat_eq, List, [], ◌∷◌, ◌++◌, map, Option, Some, None, option_map, Ok, is_some, slice_get, if◌then◌else◌}
+use Rattle.std.specs.Prelude.{ℕ, Bool, true, false, ◌&&◌, nat_eq, List, [], ◌∷◌, ◌++◌, map, Option, Some, None, option_map, Ok, is_some, unwrap_or, slice_get, if◌then◌else◌}
 use Rattle.std.specs.Option.{option_to_list, option_and_then}
 use Rattle.sv_base.specs.declared.names.Name.{Name}
 use Rattle.sv_code.specs.declared.fragments.FragAttr.{FragAttr}
@@ -9,7 +9,6 @@ use Rattle.sv_code.specs.declared.program.Program.{Program}
 use Rattle.sv_code.specs.declared.program.Prop.{Prop}
 use Rattle.sv_code.specs.declared.tags.Tag.{Tag}
 use Rattle.sv_meaning.specs.Components.{component_at}
-use Rattle.sv_parts.specs.Attributes.{texts_at}
 use Rattle.sv_parts.specs.Sides.{Sides, moved}
 use Rattle.sv_parts.specs.State.{Run, andThen, numbered, emitted, remembered, each, one}
 use Rattle.sv_parts.specs.Values.{unvalued, value_step, alone_step}
@@ -22,6 +21,10 @@ use Rattle.sv_shapes.specs.declared.shape.Shape.{Shape}
 use Rattle.sv_shapes.specs.declared.shape.Shape.TheVariants as shape
 use Rattle.sv_value.specs.Value.{Val, undefined}
 use Rattle.sv_view.specs.Level.{View}
+
+-- the texts that are kept of the attribute with a number
+abbrev pub texts_at : List (List (List ℕ)) → ℕ → List (List ℕ)
+texts_at texts i = unwrap_or (slice_get texts i) []
 
 -- ---- attributes that pass a value
 

@@ -1,6 +1,7 @@
 -- Values of attributes. One expression alone passes its value; else the texts of the parts are joined. Of those the old ones are kept whose
 -- expressions didn't move.
 use Rattle.std.specs.Prelude.{ℕ, suc, Bool, true, false, ◌||◌, List, [], ◌∷◌, Option, Some, None, Ok, Err, slice_get, if◌then◌else◌}
+use Rattle.sv_attributes.specs.Values.{alone}
 use Rattle.sv_base.specs.declared.span.Span.{Span}
 use Rattle.sv_code.specs.declared.fragments.FragValue.{FragValue}
 use Rattle.sv_code.specs.declared.fragments.FragValue.TheVariants as value
@@ -10,7 +11,7 @@ use Rattle.sv_code.specs.declared.parts.Part.{Part}
 use Rattle.sv_code.specs.declared.program.Program.{Program}
 use Rattle.sv_ops.specs.Answer.{Answer, Gives, Refuses, spelled}
 use Rattle.sv_ops.specs.Texts.{between}
-use Rattle.sv_parts.specs.Parts.{evaluated, text_of_part}
+use Rattle.sv_parts.specs.Parts.{evaluated, text_step}
 use Rattle.sv_parts.specs.Sides.{Sides, moved}
 use Rattle.sv_parts.specs.State.{Run, andThen, each, one}
 use Rattle.sv_parts.specs.declared.refusal.Refusal.TheVariants.{Fault}
@@ -18,11 +19,6 @@ use Rattle.sv_parts.specs.declared.values.Valued.{Valued}
 use Rattle.sv_value.specs.Value.{Val, boolean}
 
 -- ---- one expression alone
-
--- the expression that a value is, where it is one alone
-abbrev pub alone : List FragValuePart → Option Part
-alone (value_part.Show part ∷ []) = Some part
-alone _ = None
 
 -- no value, as nothing of it was evaluated
 abbrev pub unvalued : Valued
@@ -56,8 +52,7 @@ is_due at olds parts = due_from at olds 0 parts
 -- the text of a part, which is new where it is to be evaluated
 abbrev pub part_text : Program → Sides → FragValuePart → Option (List ℕ) → Run (List ℕ)
 part_text p at (value_part.Text text) old s = Ok (text, s)
-part_text p at (value_part.Show part) None s = text_of_part p part at s
-part_text p at (value_part.Show part) (Some text) s = if moved part.reads at then text_of_part p part at s else Ok (text, s)
+part_text p at (value_part.Show part) old s = text_step p part old at s
 
 -- the texts of all parts
 abbrev pub part_texts : Program → Sides → List (List ℕ) → List FragValuePart → Run (List (List ℕ))

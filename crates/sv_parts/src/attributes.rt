@@ -1,170 +1,181 @@
 // Attributes of elements.
 ghost use Rattle.std.specs.Prelude.{◌≡◌, option_copied, IfOk};
-ghost use Rattle.sv_base.specs.Names.{is_one_of};
-ghost use Rattle.sv_parts.specs.State.{Meets, when};
-ghost use Rattle.sv_parts.specs.Sides.{sides, moved};
-ghost use Rattle.sv_parts.specs.Parts.{tested};
+ghost use Rattle.sv_parts.specs.State.{Meets};
+ghost use Rattle.sv_parts.specs.Sides.{sides};
 ghost use Rattle.sv_parts.specs.Attributes as spec;
 
 use crate::here::Here;
-use crate::parts::{spell_out, test};
+use crate::parts::{evaluate, fault_at, has_text};
 use crate::refusal::PatchError;
 use crate::state::State;
-use crate::values::{Before, alone, is_due, take_joined};
+use crate::values::{Before, is_due, take_joined};
+use sv_attributes::{alone, attr_of, is_boolean, is_literal, place_of, state_at};
 use sv_base::{Name, NoMemory, Span, Text};
 use sv_code::{FragAttr, FragValue, FragValuePart, Part};
 use sv_list::Items;
-use sv_shapes::{TagTexts, Texts};
+use sv_ops::FaultKind;
+use sv_shapes::{AttrState, AttrStates, Held};
 use sv_tokens::Typed;
+use sv_value::truthy;
 
-/// The attributes that are there or not; the others show a text (HTML, 'Boolean attributes').
-pub const BOOLEAN_NAMES: [&str; 9] = [
-    "checked",
-    "disabled",
-    "hidden",
-    "readonly",
-    "required",
-    "selected",
-    "multiple",
-    "open",
-    "autofocus",
-];
-
-/// The texts that are kept of the attribute with a number.
-pub fn texts_at(texts: &[Texts], index: usize) -> &[Text]
-    ensures { result.now ≡ spec.texts_at texts.now index }
+// The texts that were kept of the parts of a value.
+fn texts_kept<'a>(old: Option<&'a AttrState>) -> &'a [Text]
+    ensures { result.now ≡ spec.texts_kept (option_copied old.entry) }
 {
-    match texts.get(index) {
-        Some(texts) => texts.as_slice(),
-        None => &[],
+    match old {
+        Some(AttrState::Texts(texts)) => texts.as_slice(),
+        _ => &[],
     }
 }
 
-fn is_boolean(here: &Here<'_>, name: Name) -> bool
-    ensures { result ≡ is_one_of here.now.program.now.names spec.boolean_names name }
+// What an attribute comes to with a value.
+fn show_with(
+    here: &Here<'_>,
+    name: Name,
+    part: &Part,
+    value: &Held,
+    state: &State,
+) -> Result<AttrState, PatchError>
+    ensures { Meets result state.now (spec.shown_with here.now.program.now name part.now value.now state.now) }
 {
-    let names = &here.program.names;
-    names.is_one_of(name, &BOOLEAN_NAMES)
+    let boolean = is_boolean(here.program, name);
+    if boolean || has_text(value.get()) {
+        let attr = attr_of(here.alloc, boolean, value.get())?;
+        return Ok(AttrState::Shows(attr));
+    }
+    Err(fault_at(FaultKind::NotText, part))
 }
 
-// Evaluates an expression that is the value of an attribute, if that is wanted.
-fn show_if(
-    wanted: bool,
+// What an attribute comes to with an expression.
+fn show_anew(
     here: &Here<'_>,
     name: Name,
     part: &Part,
     state: &mut State,
-) -> Result<(), PatchError>
-    ensures { Meets result state.new (when wanted (spec.shown_as here.now.program.now name part.now (sides here.now)) state.old) }
+) -> Result<AttrState, PatchError>
+    ensures { Meets result state.new (spec.shown_anew here.now.program.now name part.now (sides here.now) state.old) }
 {
-    if !wanted {
-        return Ok(());
-    }
-    if is_boolean(here, name) {
-        test(here, part, state)
-    } else {
-        spell_out(here, part, state)
+    match evaluate(here, part, state) {
+        Ok(value) => show_with(here, name, part, &value, state),
+        Err(error) => Err(error),
     }
 }
 
-// An expression that is the value of an attribute, which is new or not.
+// An expression that is the value of an attribute, from what that came to before, if it did.
 fn show_alone(
     here: &Here<'_>,
     name: Name,
     part: &Part,
-    is_new: bool,
+    old: Option<&AttrState>,
     state: &mut State,
-) -> Result<Texts, PatchError>
-    ensures { Meets result state.new (spec.shown_alone here.now.program.now name part.now is_new (sides here.now) state.old) }
+) -> Result<AttrState, PatchError>
+    ensures { Meets result state.new (spec.shown_step here.now.program.now name part.now (option_copied old.entry) (sides here.now) state.old) }
 {
-    let wanted = is_new || here.has_moved(&part.reads);
-    match show_if(wanted, here, name, part, state) {
-        Ok(()) => Ok(Items::new(here.alloc)),
+    match old {
+        Some(old) => {
+            if here.has_moved(&part.reads) {
+                show_anew(here, name, part, state)
+            } else {
+                Ok(old.share(here.alloc)?)
+            }
+        }
+        None => show_anew(here, name, part, state),
+    }
+}
+
+// A directive `class:`.
+fn hold_anew(here: &Here<'_>, part: &Part, state: &mut State) -> Result<AttrState, PatchError>
+    ensures { Meets result state.new (spec.class_anew here.now.program.now part.now (sides here.now) state.old) }
+{
+    match evaluate(here, part, state) {
+        Ok(value) => Ok(AttrState::Holds(truthy(value.get()))),
         Err(error) => Err(error),
     }
 }
 
-// The joined texts of the parts of an attribute that stays or is new.
+// The same, from what it came to before, if it did.
+fn show_class(
+    here: &Here<'_>,
+    part: &Part,
+    old: Option<&AttrState>,
+    state: &mut State,
+) -> Result<AttrState, PatchError>
+    ensures { Meets result state.new (spec.class_step here.now.program.now part.now (option_copied old.entry) (sides here.now) state.old) }
+{
+    match old {
+        Some(old) => {
+            if here.has_moved(&part.reads) {
+                hold_anew(here, part, state)
+            } else {
+                Ok(old.share(here.alloc)?)
+            }
+        }
+        None => hold_anew(here, part, state),
+    }
+}
+
+// The texts of the parts of a value that are joined.
 fn show_joined(
     here: &Here<'_>,
     span: Span,
     parts: &[FragValuePart],
-    olds: &[Text],
+    old: Option<&AttrState>,
     state: &mut State,
-) -> Result<Texts, PatchError>
-    ensures { Meets result state.new (spec.shown_joined here.now.program.now span parts.now olds.now (sides here.now) state.old) }
+) -> Result<AttrState, PatchError>
+    ensures { Meets result state.new (spec.shown_joined here.now.program.now span parts.now (option_copied old.entry) (sides here.now) state.old) }
 {
     let before = Before {
-        texts: olds,
+        texts: texts_kept(old),
         is_new: false,
     };
     match take_joined(here, span, parts, &before, state) {
-        Ok(valued) => Ok(valued.texts),
+        Ok(valued) => Ok(AttrState::Texts(valued.texts)),
         Err(error) => Err(error),
     }
 }
 
-// A directive `class:`, which is new or not.
-fn show_class(
-    here: &Here<'_>,
-    part: &Part,
-    is_new: bool,
-    state: &mut State,
-) -> Result<Texts, PatchError>
-    ensures { Meets result state.new (spec.class_step here.now.program.now part.now is_new (sides here.now) state.old) }
-{
-    if is_new || here.has_moved(&part.reads) {
-        match test(here, part, state) {
-            Ok(()) => {}
-            Err(error) => return Err(error),
-        }
-    }
-    Ok(Items::new(here.alloc))
-}
-
-// An attribute or a directive.
+// An attribute or a directive, from what it came to before, if it did.
 fn show_attr(
     here: &Here<'_>,
     attr: &FragAttr,
-    before: &Before<'_>,
+    old: Option<&AttrState>,
     state: &mut State,
-) -> Result<Texts, PatchError>
-    ensures { Meets result state.new (spec.attr_step here.now.program.now attr.now before.now.texts.now before.now.is_new (sides here.now) state.old) }
+) -> Result<AttrState, PatchError>
+    ensures { Meets result state.new (spec.attr_step here.now.program.now attr.now (option_copied old.entry) (sides here.now) state.old) }
 {
     match attr {
         FragAttr::Plain { span, name, value } => match value {
-            FragValue::Bare => Ok(Items::new(here.alloc)),
+            FragValue::Bare => Ok(AttrState::Written),
             FragValue::Parts(parts) => match alone(parts.as_slice()) {
-                Some(part) => show_alone(here, *name, part, before.is_new, state),
-                None => show_joined(here, *span, parts.as_slice(), before.texts, state),
+                Some(part) => show_alone(here, *name, part, old, state),
+                None => {
+                    if is_literal(parts.as_slice()) {
+                        Ok(AttrState::Written)
+                    } else {
+                        show_joined(here, *span, parts.as_slice(), old, state)
+                    }
+                }
             },
         },
-        FragAttr::On { .. } => Ok(Items::new(here.alloc)),
-        FragAttr::Bind { name, target, .. } => {
-            show_alone(here, *name, target, before.is_new, state)
-        }
-        FragAttr::Class { test, .. } => show_class(here, test, before.is_new, state),
+        FragAttr::On { .. } => Ok(AttrState::Written),
+        FragAttr::Bind { name, target, .. } => show_alone(here, *name, target, old, state),
+        FragAttr::Class { test, .. } => show_class(here, test, old, state),
     }
 }
 
-/// The attributes and directives of an element, which is new or not, in source order, and what is kept of them. The first fault of a part that
-/// is evaluated is refused, and `NotText` where a part that is shown as text has none.
+/// The attributes and directives of an element in source order, from what they came to before; none did where the element is new. The first
+/// fault of a part that is evaluated is refused, and `NotText` where a part that is shown as text has none.
 pub fn show_attrs(
     here: &Here<'_>,
     attrs: &[FragAttr],
-    texts: &[Texts],
-    is_new: bool,
+    olds: &[AttrState],
     state: &mut State,
-) -> Result<TagTexts, PatchError>
-    ensures { Meets result state.new (spec.attrs_step here.now.program.now attrs.now texts.now is_new (sides here.now) state.old) }
+) -> Result<AttrStates, PatchError>
+    ensures { Meets result state.new (spec.attrs_step here.now.program.now attrs.now olds.now (sides here.now) state.old) }
 {
     let mut all = Items::new(here.alloc);
     for index in 0..attrs.len() {
-        let before = Before {
-            texts: texts_at(texts, index),
-            is_new,
-        };
-        match show_attr(here, &attrs[index], &before, state) {
+        match show_attr(here, &attrs[index], state_at(olds, index), state) {
             Ok(own) => all.push(own)?,
             Err(error) => return Err(error),
         }
@@ -173,26 +184,26 @@ pub fn show_attrs(
 }
 
 // Whether a part of a value is to be evaluated.
-fn is_value_due(here: &Here<'_>, value: &FragValue, olds: &[Text]) -> bool
-    ensures { result ≡ spec.value_due (sides here.now) value.now olds.now }
+fn is_value_due(here: &Here<'_>, value: &FragValue, old: Option<&AttrState>) -> bool
+    ensures { result ≡ spec.value_due (sides here.now) value.now (option_copied old.entry) }
 {
     match value {
         FragValue::Bare => false,
         FragValue::Parts(parts) => match alone(parts.as_slice()) {
             Some(part) => here.has_moved(&part.reads),
-            None => is_due(here, parts.as_slice(), olds),
+            None => is_due(here, parts.as_slice(), texts_kept(old)),
         },
     }
 }
 
 // Whether a part of the attribute of a name is to be evaluated.
-fn is_attr_due(here: &Here<'_>, own: &str, attr: &FragAttr, olds: &[Text]) -> bool
-    ensures { result ≡ spec.attr_due here.now.program.now (sides here.now) own.now attr.now olds.now }
+fn is_attr_due(here: &Here<'_>, own: &str, attr: &FragAttr, old: Option<&AttrState>) -> bool
+    ensures { result ≡ spec.attr_due here.now.program.now (sides here.now) own.now attr.now (option_copied old.entry) }
 {
     let names = &here.program.names;
     match attr {
         FragAttr::Plain { name, value, .. } => {
-            names.is_text(*name, own) && is_value_due(here, value, olds)
+            names.is_text(*name, own) && is_value_due(here, value, old)
         }
         FragAttr::Bind { name, target, .. } => {
             names.is_text(*name, own) && here.has_moved(&target.reads)
@@ -202,39 +213,29 @@ fn is_attr_due(here: &Here<'_>, own: &str, attr: &FragAttr, olds: &[Text]) -> bo
 }
 
 // The same of one of these attributes.
-fn is_one_due(here: &Here<'_>, own: &str, attrs: &[FragAttr], texts: &[Texts]) -> bool
-    ensures { result ≡ spec.due_among here.now.program.now (sides here.now) own.now texts.now 0 attrs.now }
+fn is_one_due(here: &Here<'_>, own: &str, attrs: &[FragAttr], olds: &[AttrState]) -> bool
+    ensures { result ≡ spec.due_among here.now.program.now (sides here.now) own.now olds.now 0 attrs.now }
 {
     for index in 0..attrs.len() {
-        if is_attr_due(here, own, &attrs[index], texts_at(texts, index)) {
+        if is_attr_due(here, own, &attrs[index], state_at(olds, index)) {
             return true;
         }
     }
     false
 }
 
-// The attribute over which a state is laid.
-fn place_of(typed: &Typed) -> &'static str
-    ensures { result.now ≡ spec.place_of typed.now }
-{
-    match typed {
-        Typed::Text(_) => "value",
-        Typed::Checked(_) => "checked",
-    }
-}
-
 /// The state that is left in an element: it goes where a part of the attribute is evaluated over which it is laid.
 pub fn typed_after(
     here: &Here<'_>,
     attrs: &[FragAttr],
-    texts: &[Texts],
+    olds: &[AttrState],
     typed: Option<&Typed>,
 ) -> Result<Option<Typed>, NoMemory>
-    ensures { IfOk result (λ after. after ≡ spec.typed_after here.now.program.now (sides here.now) attrs.now texts.now (option_copied typed.entry)) }
+    ensures { IfOk result (λ after. after ≡ spec.typed_after here.now.program.now (sides here.now) attrs.now olds.now (option_copied typed.entry)) }
 {
     match typed {
         Some(typed) => {
-            if is_one_due(here, place_of(typed), attrs, texts) {
+            if is_one_due(here, place_of(typed), attrs, olds) {
                 Ok(None)
             } else {
                 Ok(Some(typed.share()?))

@@ -10,15 +10,15 @@ use crate::here::Here;
 use crate::refusal::PatchError;
 use crate::state::{State, number};
 use sv_code::FragAttr;
-use sv_shapes::{Shape, TagTexts, Texts, element_of, texts_of, typed_of};
+use sv_shapes::{AttrState, AttrStates, Shape, element_of, states_of, typed_of};
 use sv_tokens::Typed;
 
-/// The mark of an element, the state that a user left in it, and what is kept of its attributes.
+/// The mark of an element, the state that a user left in it, and what its attributes came to.
 #[derive(Drop)]
 pub struct Opening {
     pub mark: u64,
     pub typed: Option<Typed>,
-    pub texts: TagTexts,
+    pub states: AttrStates,
 }
 
 // An element at a new place.
@@ -26,11 +26,11 @@ fn open_anew(here: &Here<'_>, attrs: &[FragAttr], state: &mut State) -> Result<O
     ensures { Meets result state.new (spec.opening_anew here.now.program.now attrs.now (sides here.now) state.old) }
 {
     match number(state) {
-        Ok(mark) => match show_attrs(here, attrs, &[], true, state) {
-            Ok(texts) => Ok(Opening {
+        Ok(mark) => match show_attrs(here, attrs, &[], state) {
+            Ok(states) => Ok(Opening {
                 mark,
                 typed: None,
-                texts,
+                states,
             }),
             Err(error) => Err(error),
         },
@@ -38,12 +38,12 @@ fn open_anew(here: &Here<'_>, attrs: &[FragAttr], state: &mut State) -> Result<O
     }
 }
 
-// What was shown of an element that stays: its mark, the state that a user left in it, and what was kept of its attributes.
+// What was shown of an element that stays: its mark, the state that a user left in it, and what its attributes came to.
 #[derive(Clone, Copy)]
 struct OldElement<'a> {
     mark: u64,
     typed: Option<&'a Typed>,
-    texts: &'a [Texts],
+    states: &'a [AttrState],
 }
 
 // An element that stays.
@@ -53,14 +53,14 @@ fn open_kept(
     old: &OldElement<'_>,
     state: &mut State,
 ) -> Result<Opening, PatchError>
-    ensures { Meets result state.new (spec.opening_kept here.now.program.now attrs.now old.now.mark (option_copied old.now.typed) old.now.texts.now (sides here.now) state.old) }
+    ensures { Meets result state.new (spec.opening_kept here.now.program.now attrs.now old.now.mark (option_copied old.now.typed) old.now.states.now (sides here.now) state.old) }
 {
-    let typed = typed_after(here, attrs, old.texts, old.typed)?;
-    match show_attrs(here, attrs, old.texts, false, state) {
-        Ok(texts) => Ok(Opening {
+    let typed = typed_after(here, attrs, old.states, old.typed)?;
+    match show_attrs(here, attrs, old.states, state) {
+        Ok(states) => Ok(Opening {
             mark: old.mark,
             typed,
-            texts,
+            states,
         }),
         Err(error) => Err(error),
     }
@@ -80,7 +80,7 @@ pub fn open(
             let before = OldElement {
                 mark,
                 typed: typed_of(old),
-                texts: texts_of(old),
+                states: states_of(old),
             };
             open_kept(here, attrs, &before, state)
         }

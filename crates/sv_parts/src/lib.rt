@@ -12,12 +12,11 @@ mod state;
 mod tags;
 mod values;
 
-pub use attributes::BOOLEAN_NAMES;
 pub use counters::{Counters, WORK_LIMIT};
 pub use elements::{Opening, open};
 pub use here::Here;
-pub use parts::{evaluate, fault_at, plan_show, plan_text};
+pub use parts::{evaluate, fault_at, plan_literal, plan_show};
 pub use refusal::{PatchError, Refusal};
 pub use state::{Effect, Given, Kept, State, destroy, number, spend};
 pub use tags::{passed_name, plan_tag, take_passed};
-pub use values::{Before, Valued, alone};
+pub use values::{Before, Valued};

@@ -1,10 +1,11 @@
 // Parts evaluated, and the texts of what they give.
-ghost use Rattle.std.specs.Prelude.{◌≡◌, is_some};
+ghost use Rattle.std.specs.Prelude.{◌≡◌, is_some, option_copied};
 ghost use Rattle.sv_value.specs.View.{view_of};
 ghost use Rattle.sv_value.specs.Words.{text_of as spec_text_of};
-ghost use Rattle.sv_parts.specs.State.{Meets, when};
+ghost use Rattle.sv_shapes.specs.Shapes.{opened};
+ghost use Rattle.sv_parts.specs.State.{Meets};
 ghost use Rattle.sv_parts.specs.Sides.{sides};
-ghost use Rattle.sv_parts.specs.Parts.{evaluated, tested, text_of_part, spelled_out, worded, text_step, show_step};
+ghost use Rattle.sv_parts.specs.Parts.{evaluated, text_of_part, text_step, marked, literal_step, show_step};
 
 use crate::here::Here;
 use crate::refusal::{PatchError, Refusal};
@@ -14,7 +15,7 @@ use sv_code::Part;
 use sv_meaning::EvalError;
 use sv_ops::{Fault, FaultKind};
 use sv_pure::eval;
-use sv_shapes::{Held, Shape};
+use sv_shapes::{Held, Shape, mark_of, shown_text};
 use sv_value::{Value, ValueFault, text_of};
 
 /// A fault at the place of a part.
@@ -38,18 +39,8 @@ pub fn evaluate(here: &Here<'_>, part: &Part, state: &mut State) -> Result<Held,
     }
 }
 
-/// Evaluates a part whose value doesn't matter; a fault of it is refused.
-pub fn test(here: &Here<'_>, part: &Part, state: &mut State) -> Result<(), PatchError>
-    ensures { Meets result state.new (tested here.now.program.now part.now (sides here.now) state.old) }
-{
-    match evaluate(here, part, state) {
-        Ok(_value) => Ok(()),
-        Err(error) => Err(error),
-    }
-}
-
-/// The text of a part; a fault of it is refused, and `NotText` where its value has no text.
-pub fn text_of_shown(here: &Here<'_>, part: &Part, state: &mut State) -> Result<Text, PatchError>
+// The text of a part; a fault of it is refused, and `NotText` where its value has no text.
+fn text_of_shown(here: &Here<'_>, part: &Part, state: &mut State) -> Result<Text, PatchError>
     ensures { Meets result state.new (text_of_part here.now.program.now part.now (sides here.now) state.old) }
 {
     match evaluate(here, part, state) {
@@ -62,8 +53,8 @@ pub fn text_of_shown(here: &Here<'_>, part: &Part, state: &mut State) -> Result<
     }
 }
 
-// Whether a value has a text.
-fn has_text(value: &Value) -> bool
+/// Whether a value has a text.
+pub fn has_text(value: &Value) -> bool
     ensures { result ≡ is_some (spec_text_of (view_of value.now)) }
 {
     match value {
@@ -72,64 +63,63 @@ fn has_text(value: &Value) -> bool
     }
 }
 
-/// Evaluates a part whose text doesn't matter, but that it has one: a fault of it is refused, and `NotText` where it has none.
-pub fn spell_out(here: &Here<'_>, part: &Part, state: &mut State) -> Result<(), PatchError>
-    ensures { Meets result state.new (spelled_out here.now.program.now part.now (sides here.now) state.old) }
+/// The text of a part that had one, or none. It is evaluated where it had none or something that it reads moved; a fault of it is refused, and
+/// `NotText` where it has no text.
+pub fn renew_text(
+    here: &Here<'_>,
+    part: &Part,
+    old: Option<&Text>,
+    state: &mut State,
+) -> Result<Text, PatchError>
+    ensures { Meets result state.new (text_step here.now.program.now part.now (option_copied old.entry) (sides here.now) state.old) }
 {
-    match evaluate(here, part, state) {
-        Ok(value) => {
-            if has_text(value.get()) {
-                Ok(())
+    match old {
+        Some(text) => {
+            if here.has_moved(&part.reads) {
+                text_of_shown(here, part, state)
             } else {
-                Err(fault_at(FaultKind::NotText, part))
+                Ok(text.share()?)
             }
         }
+        None => text_of_shown(here, part, state),
+    }
+}
+
+// The mark that a text had, or a new one.
+fn mark(old: Option<u64>, state: &mut State) -> Result<u64, PatchError>
+    ensures { Meets result state.new (marked old state.old) }
+{
+    match old {
+        Some(mark) => Ok(mark),
+        None => number(state),
+    }
+}
+
+/// A text that is written, by the mark that it had or a new one.
+pub fn plan_literal(old: Option<u64>, state: &mut State) -> Result<Shape, PatchError>
+    ensures { Meets result state.new (literal_step old state.old) }
+{
+    match mark(old, state) {
+        Ok(mark) => Ok(Shape::Literal(mark)),
         Err(error) => Err(error),
     }
 }
 
-// The same, if it is wanted.
-fn spell_out_if(
-    wanted: bool,
-    here: &Here<'_>,
-    part: &Part,
-    state: &mut State,
-) -> Result<(), PatchError>
-    ensures { Meets result state.new (when wanted (spelled_out here.now.program.now part.now (sides here.now)) state.old) }
-{
-    if wanted {
-        spell_out(here, part, state)
-    } else {
-        Ok(())
-    }
-}
-
-/// A literal text, by the mark that it had or a new one.
-pub fn plan_text(old: Option<u64>, state: &mut State) -> Result<Shape, PatchError>
-    ensures { Meets result state.new (text_step old state.old) }
-{
-    match old {
-        Some(mark) => Ok(Shape::Text(mark)),
-        None => match number(state) {
-            Ok(mark) => Ok(Shape::Text(mark)),
-            Err(error) => Err(error),
-        },
-    }
-}
-
-/// The text of an expression, by the mark that it had or a new one. It is evaluated where it is new or something that it reads moved; a fault
-/// of it is refused, and `NotText` where it has no text.
+/// The text of an expression, from what was shown of it before. It is evaluated where it is new or something that it reads moved; a fault of
+/// it is refused, and `NotText` where it has no text.
 pub fn plan_show(
     here: &Here<'_>,
     part: &Part,
-    old: Option<u64>,
+    old: Option<&Shape>,
     state: &mut State,
 ) -> Result<Shape, PatchError>
-    ensures { Meets result state.new (show_step here.now.program.now part.now (sides here.now) old state.old) }
+    ensures { Meets result state.new (show_step here.now.program.now part.now (sides here.now) (opened (option_copied old.entry)) state.old) }
 {
-    let wanted = old.is_none() || here.has_moved(&part.reads);
-    match spell_out_if(wanted, here, part, state) {
-        Ok(()) => plan_text(old, state),
+    match renew_text(here, part, shown_text(old), state) {
+        Ok(text) => match mark(mark_of(old), state) {
+            Ok(mark) => Ok(Shape::Text { mark, text }),
+            Err(error) => Err(error),
+        },
         Err(error) => Err(error),
     }
 }

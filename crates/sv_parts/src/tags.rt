@@ -7,12 +7,11 @@ ghost use Rattle.sv_parts.specs.State.{Meets};
 ghost use Rattle.sv_parts.specs.Sides.{sides};
 ghost use Rattle.sv_parts.specs.Tags as spec;
 
-use crate::attributes::texts_at;
 use crate::here::Here;
 use crate::refusal::PatchError;
 use crate::state::{Effect, Given, Kept, State, emit, number, remember};
 use crate::values::{Before, Valued, take_alone, take_value};
-use sv_base::{Name, NoMemory};
+use sv_base::{Name, NoMemory, Text};
 use sv_code::{Component, FragAttr, Prop, Tag};
 use sv_list::Items;
 use sv_meaning::component_at;
@@ -33,6 +32,16 @@ pub struct Passed {
 pub struct Offer {
     pub texts: Texts,
     pub passed: Option<Passed>,
+}
+
+// The texts that are kept of the attribute with a number.
+fn texts_at(texts: &[Texts], index: usize) -> &[Text]
+    ensures { result.now ≡ spec.texts_at texts.now index }
+{
+    match texts.get(index) {
+        Some(texts) => texts.as_slice(),
+        None => &[],
+    }
 }
 
 /// The name under which an attribute passes a value, if it does.

@@ -5,9 +5,10 @@ ghost use Rattle.sv_parts.specs.Sides.{sides};
 ghost use Rattle.sv_parts.specs.Values as spec;
 
 use crate::here::Here;
-use crate::parts::{evaluate, text_of_shown};
+use crate::parts::{evaluate, renew_text};
 use crate::refusal::{PatchError, Refusal};
 use crate::state::State;
+use sv_attributes::alone;
 use sv_base::{Span, Text};
 use sv_code::{FragValue, FragValuePart, Part};
 use sv_list::Items;
@@ -59,16 +60,6 @@ impl Valued {
         } else {
             Valued::none(here)
         }
-    }
-}
-
-/// The expression that a value is, where it is one alone.
-pub fn alone(parts: &[FragValuePart]) -> Option<&Part>
-    ensures { option_copied result ≡ spec.alone parts.now }
-{
-    match parts {
-        [FragValuePart::Show(part)] => Some(part),
-        _ => None,
     }
 }
 
@@ -131,16 +122,7 @@ fn take_text(
 {
     match part {
         FragValuePart::Text(text) => Ok(text.share()?),
-        FragValuePart::Show(part) => match old {
-            Some(text) => {
-                if here.has_moved(&part.reads) {
-                    text_of_shown(here, part, state)
-                } else {
-                    Ok(text.share()?)
-                }
-            }
-            None => text_of_shown(here, part, state),
-        },
+        FragValuePart::Show(part) => renew_text(here, part, old, state),
     }
 }
 

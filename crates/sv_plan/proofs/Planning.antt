@@ -16,7 +16,7 @@ use Rattle.sv_plan.proofs.Going.{found-at}
 use Rattle.sv_parts.proofs.Steps.{Left, left-begins, left-steps, left-stops, one-ok, one-err, along}
 use Rattle.sv_plan.specs.Blocks.{tests, chosen, is_arm}
 use Rattle.sv_plan.specs.Content.{Content, content_at, outer_tags}
-use Rattle.sv_parts.specs.Parts.{text_step, show_step}
+use Rattle.sv_parts.specs.Parts.{literal_step, show_step}
 use Rattle.sv_plan.specs.Plan.{Planner, Walker, ArmPlan, Filled, plan_each, plan, plan_all, slotted, step, arm_step, body_at, body_in, head, kept_step, element_step, if_step, key_step, each_step, slot_step, content_step, row_step}
 use Rattle.sv_parts.specs.Sides.{Sides}
 use Rattle.sv_plan.specs.Lists.{Head, keys_of, row_keys, place_at}
@@ -73,11 +73,11 @@ module _ (p : Program) (tags : List (Option ℕ)) where
   -- ---- what a call for a form met, the fragment met
 
   module _ (f : Frag) (at : Sides) (old : Option Shape) (s v : State) (r : Result Shape PatchError) where
-    pub meets-Text : (text : List ℕ) (mark : Option ℕ) → f ≡ frag.Text text → mark ≡ mark_in (opened old) → Meets r v (text_step mark s) → Meets r v (plan p tags f at old s)
-    meets-Text text mark is e m = along r v (text_step mark s) _ (rw (is, plan-out, frag.outs-Text, e) refl) m
+    pub meets-Text : (text : List ℕ) (mark : Option ℕ) → f ≡ frag.Text text → mark ≡ mark_in (opened old) → Meets r v (literal_step mark s) → Meets r v (plan p tags f at old s)
+    meets-Text text mark is e m = along r v (literal_step mark s) _ (rw (is, plan-out, frag.outs-Text, e) refl) m
 
-    pub meets-Show : (part : Part) (mark : Option ℕ) → f ≡ frag.Show part → mark ≡ mark_in (opened old) → Meets r v (show_step p part at mark s) → Meets r v (plan p tags f at old s)
-    meets-Show part mark is e m = along r v (show_step p part at mark s) _ (rw (is, plan-out, frag.outs-Show, e) refl) m
+    pub meets-Show : (part : Part) → f ≡ frag.Show part → Meets r v (show_step p part at (opened old) s) → Meets r v (plan p tags f at old s)
+    meets-Show part is m = along r v (show_step p part at (opened old) s) _ (rw (is, plan-out, frag.outs-Show) refl) m
 
     pub meets-Element : (span : Span) (name : List ℕ) (attrs as' : List FragAttr) (children cs : List Frag) → f ≡ frag.Element span name attrs children → as' ≡ attrs → cs ≡ children →
         Meets r v (element_step p as' (plan_all p tags cs) at (opened old) s) → Meets r v (plan p tags f at old s)

@@ -11,7 +11,7 @@ use Rattle.sv_plan.specs.Blocks.{chosen, is_arm, settled}
 use Rattle.sv_plan.specs.Content.{content_at}
 use Rattle.sv_parts.specs.Elements.{opening_step}
 use Rattle.sv_plan.specs.Lists.{Head, list_step}
-use Rattle.sv_parts.specs.Parts.{text_step, show_step}
+use Rattle.sv_parts.specs.Parts.{literal_step, show_step}
 use Rattle.sv_plan.specs.Rows.{OldRow, old_row, row_sides, old_parts}
 use Rattle.sv_parts.specs.Sides.{Sides}
 use Rattle.sv_plan.specs.Slots.{props_step, content_sides}
@@ -45,7 +45,7 @@ kept_step walk at false parts s = andThen (destroyed parts s) (λ _ v. walk at [
 
 abbrev pub element_step : Program → List FragAttr → Walker → Sides → Opened → Run Shape
 element_step p attrs walk at old s =
-    andThen (opening_step p attrs at old s) (λ o v. andThen (walk at (parts_in old) v) (λ parts u. Ok (shape.Element o.mark o.typed o.texts parts, u)))
+    andThen (opening_step p attrs at old s) (λ o v. andThen (walk at (parts_in old) v) (λ parts u. Ok (shape.Element o.mark o.typed o.states parts, u)))
 
 -- ---- if blocks and key blocks
 
@@ -107,7 +107,7 @@ abbrev pub arm_step : FragArm-F Planner ArmPlan → ArmPlan
 arm_step a = (a.test, a.body)
 
 -- the content of a branch, or of the last one
-abbrev pub body_at : List ArmPlan → Option (List Planner) → ℕ → List Planner
+abbrev pub body_at : {A : Type 0} → List (Part × List A) → Option (List A) → ℕ → List A
 body_at arms last i = unwrap_or (option_map (λ a. a.1) (slice_get arms i)) (unwrap_or last [])
 
 abbrev pub body_in : List FragArm → List Frag → ℕ → List Frag
@@ -118,8 +118,8 @@ head list item index key = record { list = list; item = item; index = index; key
 
 -- a fragment, where a slot of some name shows some content
 abbrev pub step : Program → (List ℕ → Option Filled) → Frag-F Planner ArmPlan → Planner
-step p slot (Frag-F.Text text) at old s = text_step (mark_in (opened old)) s
-step p slot (Frag-F.Show part) at old s = show_step p part at (mark_in (opened old)) s
+step p slot (Frag-F.Text text) at old s = literal_step (mark_in (opened old)) s
+step p slot (Frag-F.Show part) at old s = show_step p part at (opened old) s
 step p slot (Frag-F.Element span name attrs children) at old s = element_step p attrs (plan_each children) at (opened old) s
 step p slot (Frag-F.Tag tag reads) at old s = tag_step p tag (place_in (opened old)) (texts_in (opened old)) at s
 step p slot (Frag-F.Named name lets node) at old s = Ok (shape.Nothing, s)

@@ -12,5 +12,7 @@ mod walk;
 
 pub use content::{Content, content_at, outer_tags};
 pub use instance::{Patched, Patching, patch};
+pub use lists::{EachBlock, Spot, row_view};
 pub use slots::content_view;
-pub use sv_parts::{BOOLEAN_NAMES, Effect, Given, Kept, PatchError, Refusal};
+pub use sv_parts::{Effect, Given, Kept, PatchError, Refusal};
+pub use walk::{body_of, frags_of};

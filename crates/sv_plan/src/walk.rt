@@ -16,7 +16,7 @@ use crate::slots::{content_view, take_props};
 use sv_base::Text;
 use sv_code::{Frag, FragArm, FragAttr, Frags, Part};
 use sv_list::Items;
-use sv_parts::{Here, PatchError, State, destroy, open, plan_show, plan_tag, plan_text};
+use sv_parts::{Here, PatchError, State, destroy, open, plan_literal, plan_show, plan_tag};
 use sv_shapes::{
     Row, Rows, Shape, Shapes, SlotProp, arm_of, key_of, list_of, mark_of, parts_of, place_of,
     props_of, rows_of, texts_of,
@@ -37,8 +37,8 @@ fn shape_at(shapes: &[Shape], index: usize) -> Option<&Shape>
     shapes.get(index)
 }
 
-// Fragments that may be absent.
-fn frags_of(frags: Option<&Frags>) -> &[Frag]
+/// Fragments that may be absent.
+pub fn frags_of(frags: Option<&Frags>) -> &[Frag]
     ensures { result.now ≡ unwrap_or (option_copied frags.entry) [] }
 {
     match frags {
@@ -47,8 +47,8 @@ fn frags_of(frags: Option<&Frags>) -> &[Frag]
     }
 }
 
-// The content of a branch, or of the last one.
-fn body_of<'a>(arms: &'a [FragArm], last: &'a [Frag], arm: usize) -> &'a [Frag]
+/// The content of a branch, or of the last one.
+pub fn body_of<'a>(arms: &'a [FragArm], last: &'a [Frag], arm: usize) -> &'a [Frag]
     ensures { result.now ≡ spec.body_in arms.now last.now arm }
 {
     match arms.get(arm) {
@@ -68,8 +68,8 @@ fn plan_one(
     ensures { Meets result state.new (spec.plan here.now.program.now here.now.tags.now frag.now (sides here.now) (option_copied old.entry) state.old) }
 {
     match frag {
-        Frag::Text(_) => plan_text(mark_of(old), state),
-        Frag::Show(part) => plan_show(here, part, mark_of(old), state),
+        Frag::Text(_) => plan_literal(mark_of(old), state),
+        Frag::Show(part) => plan_show(here, part, old, state),
         Frag::Element {
             attrs,
             children,
@@ -170,7 +170,7 @@ fn plan_element(
             Ok(parts) => Ok(Shape::Element {
                 mark: opening.mark,
                 typed: opening.typed,
-                texts: opening.texts,
+                states: opening.states,
                 parts,
             }),
             Err(error) => Err(error),

@@ -5,6 +5,7 @@ use Rattle.sv_shapes.specs.Typed.{laid, laid_in, laid_all, laid_rows, laid_shape
 use Rattle.sv_shapes.specs.declared.shape.Row.{Row, fold_out-Row}
 use Rattle.sv_shapes.specs.declared.shape.Shape.{Shape, out-Shape, fold_out-Shape, map-Shape}
 use Rattle.sv_shapes.specs.declared.shape.Shape.TheVariants as shape
+use Rattle.sv_shapes.specs.declared.shape.AttrState.{AttrState}
 use Rattle.sv_shapes.specs.declared.shape.KeyState.{KeyState}
 use Rattle.sv_shapes.specs.declared.shape.SlotProp.{SlotProp}
 use Rattle.sv_tokens.specs.declared.element.Typed.{Typed}
@@ -21,8 +22,11 @@ laid-row at left r = fold_out-Row Shape Row (laid_shape at left) laid_row r
 -- ---- one lemma for each kind of shape: what its parts become makes what it becomes
 
 module _ (at : ℕ) (left : Typed) (x : Shape) where
-  pub in-Text : (mark : ℕ) → x ≡ shape.Text mark → shape.Text mark ≡ laid at left x
-  in-Text mark is = rw (is, laid-out, shape.outs-Text) refl
+  pub in-Literal : (mark : ℕ) → x ≡ shape.Literal mark → shape.Literal mark ≡ laid at left x
+  in-Literal mark is = rw (is, laid-out, shape.outs-Literal) refl
+
+  pub in-Text : (mark : ℕ) (text text' : List ℕ) → x ≡ shape.Text mark text → text' ≡ text → shape.Text mark text' ≡ laid at left x
+  in-Text mark text text' is e = rw (is, laid-out, shape.outs-Text, e) refl
 
   pub in-Nothing : x ≡ shape.Nothing → shape.Nothing ≡ laid at left x
   in-Nothing is = rw (is, laid-out, shape.outs-Nothing) refl
@@ -30,9 +34,9 @@ module _ (at : ℕ) (left : Typed) (x : Shape) where
   pub in-Tag : (place : ℕ) (texts texts' : List (List (List ℕ))) → x ≡ shape.Tag place texts → texts' ≡ texts → shape.Tag place texts' ≡ laid at left x
   in-Tag place texts texts' is e = rw (is, laid-out, shape.outs-Tag, e) refl
 
-  pub in-Element : (mark : ℕ) (typed typed' : Option Typed) (texts texts' : List (List (List ℕ))) (parts parts' : List Shape) → x ≡ shape.Element mark typed texts parts →
-      typed' ≡ (if nat_eq mark at then Some left else typed) → texts' ≡ texts → parts' ≡ laid_all at left parts → shape.Element mark typed' texts' parts' ≡ laid at left x
-  in-Element mark typed typed' texts texts' parts parts' is e f g = rw (is, laid-out, shape.outs-Element, e, f, g) refl
+  pub in-Element : (mark : ℕ) (typed typed' : Option Typed) (states states' : List AttrState) (parts parts' : List Shape) → x ≡ shape.Element mark typed states parts →
+      typed' ≡ (if nat_eq mark at then Some left else typed) → states' ≡ states → parts' ≡ laid_all at left parts → shape.Element mark typed' states' parts' ≡ laid at left x
+  in-Element mark typed typed' states states' parts parts' is e f g = rw (is, laid-out, shape.outs-Element, e, f, g) refl
 
   pub in-Slot : (props props' : List SlotProp) (parts parts' : List Shape) → x ≡ shape.Slot props parts → props' ≡ props → parts' ≡ laid_all at left parts → shape.Slot props' parts' ≡ laid at left x
   in-Slot props props' parts parts' is e f = rw (is, laid-out, shape.outs-Slot, e, f) refl

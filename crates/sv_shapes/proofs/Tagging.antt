@@ -5,6 +5,7 @@ use Rattle.sv_shapes.specs.Places.{places, places_all, places_in, places_rows, s
 use Rattle.sv_shapes.specs.declared.shape.Row.{Row, fold_out-Row}
 use Rattle.sv_shapes.specs.declared.shape.Shape.{Shape, out-Shape, fold_out-Shape, map-Shape}
 use Rattle.sv_shapes.specs.declared.shape.Shape.TheVariants as shape
+use Rattle.sv_shapes.specs.declared.shape.AttrState.{AttrState}
 use Rattle.sv_shapes.specs.declared.shape.KeyState.{KeyState}
 use Rattle.sv_shapes.specs.declared.shape.SlotProp.{SlotProp}
 use Rattle.sv_tokens.specs.declared.element.Typed.{Typed}
@@ -60,8 +61,11 @@ rows-end found rs i le = rw (over rs i le, rows-nil) (append-nil found)
 pub in-nothing : (found : List ℕ) (x : Shape) → places x ≡ [] → found ≡ found ++ places x
 in-nothing found x e = rw e (sym (append-nil found))
 
-pub in-Text : (x : Shape) (mark : ℕ) → x ≡ shape.Text mark → places x ≡ []
-in-Text x mark is = rw (is, places-out, shape.outs-Text) refl
+pub in-Literal : (x : Shape) (mark : ℕ) → x ≡ shape.Literal mark → places x ≡ []
+in-Literal x mark is = rw (is, places-out, shape.outs-Literal) refl
+
+pub in-Text : (x : Shape) (mark : ℕ) (text : List ℕ) → x ≡ shape.Text mark text → places x ≡ []
+in-Text x mark text is = rw (is, places-out, shape.outs-Text) refl
 
 pub in-Nothing : (x : Shape) → x ≡ shape.Nothing → places x ≡ []
 in-Nothing x is = rw (is, places-out, shape.outs-Nothing) refl
@@ -69,9 +73,9 @@ in-Nothing x is = rw (is, places-out, shape.outs-Nothing) refl
 pub in-Tag : (x : Shape) (place : ℕ) (texts : List (List (List ℕ))) → x ≡ shape.Tag place texts → places x ≡ place ∷ []
 in-Tag x place texts is = rw (is, places-out, shape.outs-Tag) refl
 
-pub in-Element : (x : Shape) (mark : ℕ) (typed : Option Typed) (texts : List (List (List ℕ))) (parts : List Shape) → x ≡ shape.Element mark typed texts parts → places x ≡ places_all parts
+pub in-Element : (x : Shape) (mark : ℕ) (typed : Option Typed) (states : List AttrState) (parts : List Shape) → x ≡ shape.Element mark typed states parts → places x ≡ places_all parts
 unfolding places_all
-in-Element x mark typed texts parts is = rw (is, places-out, shape.outs-Element) refl
+in-Element x mark typed states parts is = rw (is, places-out, shape.outs-Element) refl
 
 pub in-Slot : (x : Shape) (props : List SlotProp) (parts : List Shape) → x ≡ shape.Slot props parts → places x ≡ places_all parts
 unfolding places_all

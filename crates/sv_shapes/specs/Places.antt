@@ -8,8 +8,9 @@ joined [] = []
 joined (x ∷ xs) = x ++ joined xs
 
 abbrev pub shape_places : Shape-F (List ℕ) (List ℕ) → List ℕ
-shape_places (Shape-F.Text mark) = []
-shape_places (Shape-F.Element mark typed texts parts) = joined parts
+shape_places (Shape-F.Literal mark) = []
+shape_places (Shape-F.Text mark text) = []
+shape_places (Shape-F.Element mark typed states parts) = joined parts
 shape_places (Shape-F.Tag place texts) = place ∷ []
 shape_places Shape-F.Nothing = []
 shape_places (Shape-F.Slot props parts) = joined parts

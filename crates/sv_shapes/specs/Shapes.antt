@@ -1,5 +1,6 @@
 -- What a shape of each kind keeps. A shape of another kind than the one that is asked for keeps nothing.
 use Rattle.std.specs.Prelude.{ℕ, List, [], Option, Some, None, option_map}
+use Rattle.sv_shapes.specs.declared.shape.AttrState.{AttrState}
 use Rattle.sv_shapes.specs.declared.shape.KeyState.{KeyState}
 use Rattle.sv_shapes.specs.declared.shape.Row.{Row}
 use Rattle.sv_shapes.specs.declared.shape.Shape.{Shape, Shape-F, out-Shape}
@@ -15,22 +16,32 @@ opened = option_map out-Shape
 
 -- the mark of a text
 abbrev pub mark_in : Opened → Option ℕ
-mark_in (Some (Shape-F.Text mark)) = Some mark
+mark_in (Some (Shape-F.Literal mark)) = Some mark
+mark_in (Some (Shape-F.Text mark text)) = Some mark
 mark_in _ = None
+
+-- the text that was shown of an expression
+abbrev pub text_in : Opened → Option (List ℕ)
+text_in (Some (Shape-F.Text mark text)) = Some text
+text_in _ = None
 
 -- the mark of an element
 abbrev pub element_in : Opened → Option ℕ
-element_in (Some (Shape-F.Element mark typed texts parts)) = Some mark
+element_in (Some (Shape-F.Element mark typed states parts)) = Some mark
 element_in _ = None
 
 -- the state that a user left in an element
 abbrev pub typed_in : Opened → Option Typed
-typed_in (Some (Shape-F.Element mark typed texts parts)) = typed
+typed_in (Some (Shape-F.Element mark typed states parts)) = typed
 typed_in _ = None
 
--- the texts that are kept of the attributes of an element or a component's tag
+-- what the attributes of an element came to
+abbrev pub states_in : Opened → List AttrState
+states_in (Some (Shape-F.Element mark typed states parts)) = states
+states_in _ = []
+
+-- the texts that are kept of the attributes of a component's tag
 abbrev pub texts_in : Opened → List (List (List ℕ))
-texts_in (Some (Shape-F.Element mark typed texts parts)) = texts
 texts_in (Some (Shape-F.Tag place texts)) = texts
 texts_in _ = []
 
@@ -66,7 +77,7 @@ key_in _ = None
 
 -- the content; that of an each block is the branch for no rows
 abbrev pub parts_in : Opened → List Shape
-parts_in (Some (Shape-F.Element mark typed texts parts)) = parts
+parts_in (Some (Shape-F.Element mark typed states parts)) = parts
 parts_in (Some (Shape-F.Slot props parts)) = parts
 parts_in (Some (Shape-F.If arm parts)) = parts
 parts_in (Some (Shape-F.Each number rows none)) = none

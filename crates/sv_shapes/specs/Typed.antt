@@ -7,8 +7,9 @@ use Rattle.sv_tokens.specs.declared.element.Typed.{Typed}
 
 -- a state is laid down on the element with a mark
 abbrev pub laid_shape : ℕ → Typed → Shape-F Shape Row → Shape
-laid_shape at left (Shape-F.Text mark) = shape.Text mark
-laid_shape at left (Shape-F.Element mark typed texts parts) = shape.Element mark (if nat_eq mark at then Some left else typed) texts parts
+laid_shape at left (Shape-F.Literal mark) = shape.Literal mark
+laid_shape at left (Shape-F.Text mark text) = shape.Text mark text
+laid_shape at left (Shape-F.Element mark typed states parts) = shape.Element mark (if nat_eq mark at then Some left else typed) states parts
 laid_shape at left (Shape-F.Tag place texts) = shape.Tag place texts
 laid_shape at left Shape-F.Nothing = shape.Nothing
 laid_shape at left (Shape-F.Slot props parts) = shape.Slot props parts

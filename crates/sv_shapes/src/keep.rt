@@ -1,10 +1,11 @@
 // What a patch keeps as it was.
-ghost use Rattle.std.specs.Prelude.{◌≡◌, IfOk};
+ghost use Rattle.std.specs.Prelude.{◌≡◌, option_copied, IfOk};
 
-use crate::shape::{KeyState, SlotProp, SlotProps, TagTexts, Texts};
+use crate::shape::{AttrState, AttrStates, KeyState, SlotProp, SlotProps, TagTexts, Texts};
 use std::alloc::Global;
 use sv_base::{NoMemory, Text};
 use sv_list::Items;
+use sv_tokens::Attr;
 
 /// The same texts, whose bytes are not copied.
 pub fn share_texts(alloc: Global, texts: &[Text]) -> Result<Texts, NoMemory>
@@ -28,6 +29,17 @@ pub(crate) fn share_all_texts(alloc: Global, all: &[Texts]) -> Result<TagTexts, 
     Ok(same)
 }
 
+/// The same states of attributes, whose texts are not copied.
+pub(crate) fn share_states(alloc: Global, states: &[AttrState]) -> Result<AttrStates, NoMemory>
+    ensures { IfOk result (λ same. same ≡ states.now) }
+{
+    let mut same = Items::new(alloc);
+    for state in states {
+        same.push(state.share(alloc)?)?;
+    }
+    Ok(same)
+}
+
 /// The same props.
 pub(crate) fn share_props(alloc: Global, props: &[SlotProp]) -> Result<SlotProps, NoMemory>
     ensures { IfOk result (λ same. same ≡ props.now) }
@@ -37,6 +49,32 @@ pub(crate) fn share_props(alloc: Global, props: &[SlotProp]) -> Result<SlotProps
         same.push(prop.share(alloc)?)?;
     }
     Ok(same)
+}
+
+/// What an attribute shows, if anything, whose text is not copied.
+pub fn share_attr(attr: Option<&Attr>) -> Result<Option<Attr>, NoMemory>
+    ensures { IfOk result (λ same. same ≡ option_copied attr.entry) }
+{
+    match attr {
+        Some(attr) => Ok(Some(attr.share()?)),
+        None => Ok(None),
+    }
+}
+
+impl AttrState {
+    /// The same state, whose texts are not copied.
+    pub fn share(&self, alloc: Global) -> Result<AttrState, NoMemory>
+        ensures { IfOk result (λ same. same ≡ self.now) }
+    {
+        match self {
+            AttrState::Written => Ok(AttrState::Written),
+            AttrState::Texts(texts) => {
+                Ok(AttrState::Texts(share_texts(alloc, texts.as_slice())?))
+            }
+            AttrState::Shows(attr) => Ok(AttrState::Shows(share_attr(attr.as_ref())?)),
+            AttrState::Holds(holds) => Ok(AttrState::Holds(*holds)),
+        }
+    }
 }
 
 impl SlotProp {

@@ -2,7 +2,7 @@
 ghost use Rattle.std.specs.Prelude.{◌≡◌, Some, option_copied, IfOk, if◌then◌else◌};
 ghost use Rattle.sv_shapes.specs.Typed.{laid, laid_all, laid_rows};
 
-use crate::keep::{share_all_texts, share_props};
+use crate::keep::{share_all_texts, share_props, share_states};
 use crate::shape::{Row, Rows, Shape, Shapes};
 use std::alloc::Global;
 use sv_base::NoMemory;
@@ -42,16 +42,20 @@ fn lay_one(alloc: Global, mark: u64, typed: &Typed, shape: &Shape) -> Result<Sha
     ensures { IfOk result (λ one. one ≡ laid mark typed.now shape.now) }
 {
     match shape {
-        Shape::Text(own) => Ok(Shape::Text(*own)),
+        Shape::Literal(own) => Ok(Shape::Literal(*own)),
+        Shape::Text { mark: own, text } => Ok(Shape::Text {
+            mark: *own,
+            text: text.share()?,
+        }),
         Shape::Element {
             mark: own,
             typed: old,
-            texts,
+            states,
             parts,
         } => Ok(Shape::Element {
             mark: *own,
             typed: lay_if(*own == mark, typed, old.as_ref())?,
-            texts: share_all_texts(alloc, texts.as_slice())?,
+            states: share_states(alloc, states.as_slice())?,
             parts: lay_all(alloc, mark, typed, parts.as_slice())?,
         }),
         Shape::Tag { place, texts } => Ok(Shape::Tag {

@@ -12,13 +12,15 @@ mod showing;
 mod shown;
 
 pub use held::Held;
-pub use keep::share_texts;
+pub use keep::{share_attr, share_texts};
 pub use lay::lay_all;
 pub use opened::{
-    arm_of, element_of, key_of, list_of, mark_of, parts_of, place_of, props_of, rows_of, texts_of,
-    typed_of,
+    arm_of, element_of, key_of, list_of, mark_of, parts_of, place_of, props_of, rows_of,
+    shown_text, states_of, texts_of, typed_of,
 };
 pub use places::places_of;
-pub use shape::{KeyState, Row, Rows, Shape, Shapes, SlotProp, SlotProps, TagTexts, Texts};
+pub use shape::{
+    AttrState, AttrStates, KeyState, Row, Rows, Shape, Shapes, SlotProp, SlotProps, TagTexts, Texts,
+};
 pub use showing::Showing;
 pub use shown::Shown;

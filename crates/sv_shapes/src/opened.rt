@@ -1,8 +1,9 @@
 // What a shape of each kind keeps, where there is one and it is of that kind.
 ghost use Rattle.std.specs.Prelude.{◌≡◌, option_copied};
-ghost use Rattle.sv_shapes.specs.Shapes.{opened, mark_in, element_in, typed_in, texts_in, place_in, props_in, arm_in, list_in, rows_in, key_in, parts_in};
+ghost use Rattle.sv_shapes.specs.Shapes.{opened, mark_in, text_in, element_in, typed_in, states_in, texts_in, place_in, props_in, arm_in, list_in, rows_in, key_in, parts_in};
 
-use crate::shape::{KeyState, Row, Shape, SlotProp, Texts};
+use crate::shape::{AttrState, KeyState, Row, Shape, SlotProp, Texts};
+use sv_base::Text;
 use sv_tokens::Typed;
 
 /// The mark of a text.
@@ -10,7 +11,17 @@ pub fn mark_of(old: Option<&Shape>) -> Option<u64>
     ensures { result ≡ mark_in (opened (option_copied old.entry)) }
 {
     match old {
-        Some(Shape::Text(mark)) => Some(*mark),
+        Some(Shape::Literal(mark) | Shape::Text { mark, .. }) => Some(*mark),
+        _ => None,
+    }
+}
+
+/// The text that was shown of an expression.
+pub fn shown_text<'a>(old: Option<&'a Shape>) -> Option<&'a Text>
+    ensures { option_copied result ≡ text_in (opened (option_copied old.entry)) }
+{
+    match old {
+        Some(Shape::Text { text, .. }) => Some(text),
         _ => None,
     }
 }
@@ -35,12 +46,22 @@ pub fn typed_of<'a>(old: Option<&'a Shape>) -> Option<&'a Typed>
     }
 }
 
-/// The texts that are kept of the attributes of an element or a component's tag.
+/// What the attributes of an element came to.
+pub fn states_of<'a>(old: Option<&'a Shape>) -> &'a [AttrState]
+    ensures { result.now ≡ states_in (opened (option_copied old.entry)) }
+{
+    match old {
+        Some(Shape::Element { states, .. }) => states.as_slice(),
+        _ => &[],
+    }
+}
+
+/// The texts that are kept of the attributes of a component's tag.
 pub fn texts_of<'a>(old: Option<&'a Shape>) -> &'a [Texts]
     ensures { result.now ≡ texts_in (opened (option_copied old.entry)) }
 {
     match old {
-        Some(Shape::Element { texts, .. } | Shape::Tag { texts, .. }) => texts.as_slice(),
+        Some(Shape::Tag { texts, .. }) => texts.as_slice(),
         _ => &[],
     }
 }

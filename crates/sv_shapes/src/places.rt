@@ -21,7 +21,8 @@ fn add_one(found: &mut Items<u64>, shape: &Shape) -> Result<(), NoMemory>
     ensures { OnOk result (found.new ≡ found.old ++ places shape.now) }
 {
     match shape {
-        Shape::Text(_) => Ok(()),
+        Shape::Literal(_) => Ok(()),
+        Shape::Text { .. } => Ok(()),
         Shape::Element { parts, .. } => add_all(found, parts.as_slice()),
         Shape::Tag { place, .. } => found.push(*place),
         Shape::Nothing => Ok(()),

@@ -2,14 +2,18 @@
 use crate::held::Held;
 use sv_base::{Name, Text};
 use sv_list::Items;
-use sv_tokens::Typed;
+use sv_tokens::{Attr, Typed};
 use sv_value::Key;
 
 /// The texts of the parts of an attribute's value, in the order of the text.
 pub type Texts = Items<Text>;
 
-/// For each attribute of a tag the texts of the parts of its value, as far as a patch that evaluates only some of them needs the others.
+/// For each attribute of a component's tag the texts of the parts of its value, as far as a patch that evaluates only some of them needs the
+/// others.
 pub type TagTexts = Items<Texts>;
+
+/// What the attributes of an element came to, in the order of the text.
+pub type AttrStates = Items<AttrState>;
 
 /// What is shown of some fragments, one for each.
 pub type Shapes = Items<Shape>;
@@ -36,17 +40,35 @@ pub struct KeyState {
     pub number: u64,
 }
 
+/// What an attribute of an element came to when its parts were evaluated last, as far as what it shows depends on it.
+#[derive(Drop)]
+pub enum AttrState {
+    /// Nothing of it is evaluated: it shows what is written, if anything.
+    Written,
+    /// The texts of the parts of its value, which are joined.
+    Texts(Texts),
+    /// What it shows of the value of one expression, or of the variable that is bound.
+    Shows(Option<Attr>),
+    /// Whether a directive `class:` holds.
+    Holds(bool),
+}
+
 /// What is shown of a fragment. A mark is the number of an element or a text of the page; it stays as long as the place does.
 #[cycle(shape)]
 #[derive(Drop)]
 pub enum Shape {
-    /// A text, by its mark.
-    Text(u64),
-    /// An element: its mark, the state that a user left in it, what is kept of its attributes, and its content.
+    /// A text that is written, by its mark.
+    Literal(u64),
+    /// The text of an expression, and its mark.
+    Text {
+        mark: u64,
+        text: Text,
+    },
+    /// An element: its mark, the state that a user left in it, what its attributes came to, and its content.
     Element {
         mark: u64,
         typed: Option<Typed>,
-        texts: TagTexts,
+        states: AttrStates,
         parts: Shapes,
     },
     /// A component's tag: the number of its place, and what is kept of its attributes.

@@ -1,16 +1,16 @@
-use Rattle.std.proofs.Common.{◌≡◌, ◌+◌, ◌<◌, ap, sym, ◌∙◌, ◌∷◌, ◌++◌, arith, rules, Some, [], map}
+use Rattle.std.proofs.Common.{◌≡◌, ◌+◌, ◌<◌, ap, sym, ◌∙◌, ◌∷◌, ◌++◌, arith, rules, Some, []}
 use Rattle.std.proofs.lemmas.List.{append-nil}
 use Rattle.std.specs.Prelude.{unwrap_or, option_copied}
 use Rattle.sv_plan.specs.Content.{seen as content_seen, outer_tags}
+use Rattle.sv_plan.specs.Plan.{body_in, head}
 use Rattle.sv_document.specs.declared.tree.Node.TheVariants as node
-use Rattle.sv_shapes.specs.Shapes.{opened}
+use Rattle.sv_shapes.specs.Shapes.{Opened, opened, mark_in}
 use Rattle.sv_view.specs.Level.{View}
-use Rattle.sv_fresh.specs.Blocks.{chosen, items_in}
 use Rattle.sv_fresh.specs.Fresh.{drawn_all, shown_text, child_drawn, content_drawn, list_nodes}
-use Rattle.sv_fresh.specs.Values.{value_at, text_at}
+use Rattle.sv_fresh.specs.Sources.{text_by, items_by}
 use Rattle.sv_fresh.specs.Scene.{Scene, Tags, seen, within, markup_at}
 use Rattle.sv_fresh.proofs.Drawing.{in-Text, in-Show, in-Element, in-Tag, in-Named, in-Key, in-If, in-Each, in-own, in-given, draws, drawn-each, at-bottom, not-live, instance-drawn, no-room, room-left}
-use Rattle.sv_fresh.proofs.Weights.{same, upward, downward, inward, inside, whole, weight, weights, arms_weight, item-weight, weight-Tag, weight-Element, weight-Slot, weight-If, weight-Each, weight-Key, chosen-weight, content-weight, content-level, markup-weight}
+use Rattle.sv_fresh.proofs.Weights.{same, upward, downward, inward, inside, whole, weight, weights, arms_weight, item-weight, weight-Tag, weight-Element, weight-Slot, weight-If, weight-Each, weight-Key, body-weight, content-weight, content-level, markup-weight}
 use Rattle.sv_fresh.proofs.draw.+draw.Goals as goal
 
 pub draw-draw_tag-requires : goal.draw-draw_tag-requires
@@ -44,20 +44,19 @@ draw-draw_all-requires t c =
 pub draw-draw_all-requires-in-If : goal.draw-draw_all-requires-in-If
 draw-draw_all-requires-in-If t c =
     let s : Scene = seen c.args.here.now.scene.now in
-    let a : arms_weight c.as_slice-in-If.result.now ≡ arms_weight c.in-If.arms = ap arms_weight c.as_slice-in-If.ensures in
-    let b : weights c.branch-as_ref.result.now ≡ weights (unwrap_or c.in-If.last []) = ap weights (search rules) in
-    let e : weights c.in_ok-body-in-If.body.now ≡ weights (chosen s.page.program c.args.here.now.view.now (map (λ a. (a.test, a.body)) c.as_slice-in-If.result.now) c.branch-as_ref.result.now) =
-    ap weights c.in_ok-body-in-If.ensures in
-    let w = chosen-weight s.page.program c.args.here.now.view.now c.as_slice-in-If.result.now c.branch-as_ref.result.now in
-    let h = same s (weights c.in_ok-body-in-If.body.now) (weight c.args.frag.now) (omega (arith, weight-If _ _ _ c.in-If.is)) in
+    let a : arms_weight c.as_slice-in-If-2.result.now ≡ arms_weight c.in-If.arms = ap arms_weight c.as_slice-in-If-2.ensures in
+    let b : weights c.frags_of.result.now ≡ weights (unwrap_or c.in-If.last []) = ap weights (search rules) in
+    let e : weights c.body_of-body.result.now ≡ weights (body_in c.as_slice-in-If-2.result.now c.frags_of.result.now c.in_ok-arm-in-If.arm) = ap weights c.body_of-body.ensures in
+    let w = body-weight c.as_slice-in-If-2.result.now c.frags_of.result.now c.in_ok-arm-in-If.arm in
+    let h = same s (weights c.body_of-body.result.now) (weight c.args.frag.now) (omega (arith, weight-If _ _ _ c.in-If.is)) in
     omega (arith, c.decreases)
 
 pub draw-draw_list-requires : goal.draw-draw_list-requires
 draw-draw_list-requires t c =
     let s : Scene = seen c.args.here.now.scene.now in
     let a : weights c.as_slice-in-Each.result.now ≡ weights c.in-Each.body = ap weights c.as_slice-in-Each.ensures in
-    let b : weights c.branch-as_ref-in-Each.result.now ≡ weights (unwrap_or c.in-Each.none []) = ap weights (search rules) in
-    let h = same s ((weights c.as_slice-in-Each.result.now + weights c.branch-as_ref-in-Each.result.now) + 3) (weight c.args.frag.now) (omega (arith, weight-Each _ _ _ _ _ _ _ c.in-Each.is)) in
+    let b : weights c.frags_of-in-Each.result.now ≡ weights (unwrap_or c.in-Each.none []) = ap weights (search rules) in
+    let h = same s ((weights c.as_slice-in-Each.result.now + weights c.frags_of-in-Each.result.now) + 3) (weight c.args.frag.now) (omega (arith, weight-Each _ _ _ _ _ _ _ c.in-Each.is)) in
     omega (arith, c.decreases)
 
 pub draw-draw_all-requires-in-Key : goal.draw-draw_all-requires-in-Key
@@ -75,7 +74,8 @@ pub draw-returns-in-Show : goal.draw-returns-in-Show
 draw-returns-in-Show t c =
     let s : Scene = seen c.args.here.now.scene.now in
     let v : View = c.args.here.now.view.now in
-    draws _ _ _ (shown_text c.mark_of-in-Show.result (text_at s.page.program v c.in-Show.part)) _ c.show.ensures (rw c.mark_of-in-Show.ensures (in-Show _ _ _ _ _ c.in-Show.is))
+    let old : Opened = opened (option_copied c.args.shape) in
+    draws _ _ _ (shown_text (mark_in old) (text_by s.page.source s.page.program c.in-Show.part v old)) _ c.show.ensures (in-Show _ _ _ _ _ c.in-Show.is)
 
 pub draw-returns-in_ok-element-in-Element : goal.draw-returns-in_ok-element-in-Element
 draw-returns-in_ok-element-in-Element t c =
@@ -98,8 +98,8 @@ pub draw-returns-in-Some : goal.draw-returns-in-Some
 draw-returns-in-Some t c =
     let s : Scene = seen c.args.here.now.scene.now in
     let v : View = c.args.here.now.view.now in
-    draws _ _ _ (content_drawn s (content_seen c.in-Some.content) c.as_slice-in-Some.result.now v c.parts_of-in-Some.result.now) _ c.draw_content.ensures
-    (rw (c.as_slice-in-Some.ensures, c.parts_of-in-Some.ensures) (in-given _ _ _ _ _ _ _ _ _ c.in-Slot.is (content_seen c.in-Some.content) (rw (← c.as_str.ensures) (sym c.in-Some.ensures))))
+    draws _ _ _ (content_drawn s (content_seen c.in-Some.content) c.as_slice-in-Some.result.now v (opened (option_copied c.args.shape))) _ c.draw_content.ensures
+    (rw c.as_slice-in-Some.ensures (in-given _ _ _ _ _ _ _ _ _ c.in-Slot.is (content_seen c.in-Some.content) (rw (← c.as_str.ensures) (sym c.in-Some.ensures))))
 
 pub draw-returns-in-None : goal.draw-returns-in-None
 draw-returns-in-None t c =
@@ -108,22 +108,23 @@ draw-returns-in-None t c =
     draws _ _ _ (drawn_all s c.as_slice-in-None.result.now v c.parts_of-in-None.result.now) _ c.draw_all.ensures
     (rw (c.as_slice-in-None.ensures, c.parts_of-in-None.ensures) (in-own _ _ _ _ _ _ _ _ _ c.in-Slot.is (rw (← c.as_str.ensures) (sym c.in-None.ensures))))
 
-pub draw-returns-in_ok-body-in-If : goal.draw-returns-in_ok-body-in-If
-draw-returns-in_ok-body-in-If t c =
+pub draw-returns-in_ok-arm-in-If : goal.draw-returns-in_ok-arm-in-If
+draw-returns-in_ok-arm-in-If t c =
     let s : Scene = seen c.args.here.now.scene.now in
     let v : View = c.args.here.now.view.now in
-    let b : c.branch-as_ref.result.now ≡ unwrap_or c.in-If.last [] = search rules in
-    draws _ _ _ (drawn_all s c.in_ok-body-in-If.body.now v c.parts_of-in-If.result.now) _ c.draw_all-in-If.ensures
-    (rw (c.in_ok-body-in-If.ensures, c.as_slice-in-If.ensures, b, c.parts_of-in-If.ensures) (in-If _ _ _ _ _ _ c.in-If.is))
+    let b : c.frags_of.result.now ≡ unwrap_or c.in-If.last [] = search rules in
+    draws _ _ _ (drawn_all s c.body_of-body.result.now v c.parts_of-in-If.result.now) _ c.draw_all-in-If.ensures
+    (rw (c.body_of-body.ensures, c.in_ok-arm-in-If.ensures, c.as_slice-in-If.ensures, c.as_slice-in-If-2.ensures, b, c.parts_of-in-If.ensures) (in-If _ _ _ _ _ _ c.in-If.is))
 
 pub draw-returns-in-Each : goal.draw-returns-in-Each
 draw-returns-in-Each t c =
     let s : Scene = seen c.args.here.now.scene.now in
     let v : View = c.args.here.now.view.now in
-    let b : c.branch-as_ref-in-Each.result.now ≡ unwrap_or c.in-Each.none [] = search rules in
+    let b : c.frags_of-in-Each.result.now ≡ unwrap_or c.in-Each.none [] = search rules in
+    let k : option_copied c.as_ref-in-Each.result ≡ c.in-Each.key = c.as_ref-in-Each.ensures.value in
     draws _ _ _
-    (list_nodes (record { item = c.in-Each.item; index = c.in-Each.index }) (drawn_all s c.as_slice-in-Each.result.now) (drawn_all s c.branch-as_ref-in-Each.result.now) v (opened (option_copied c.args.shape)) (items_in (value_at s.page.program v c.in-Each.list)))
-    _ c.draw_list.ensures (rw (c.as_slice-in-Each.ensures, b) (in-Each _ _ _ _ _ _ _ _ _ _ c.in-Each.is))
+    (list_nodes (head c.in-Each.list c.in-Each.item c.in-Each.index (option_copied c.as_ref-in-Each.result)) (drawn_all s c.as_slice-in-Each.result.now) (drawn_all s c.frags_of-in-Each.result.now) v (opened (option_copied c.args.shape)) (items_by s.page.source s.page.program c.in-Each.list v (opened (option_copied c.args.shape))))
+    _ c.draw_list.ensures (rw (c.as_slice-in-Each.ensures, b, k) (in-Each _ _ _ _ _ _ _ _ _ _ c.in-Each.is))
 
 pub draw-returns-in-Key : goal.draw-returns-in-Key
 draw-returns-in-Key t c =
@@ -181,14 +182,14 @@ draw_instance-returns t c =
 pub draw_list-draw_all-requires : goal.draw_list-draw_all-requires
 draw_list-draw_all-requires t c =
     let s : Scene = seen c.args.here.now.scene.now in
-    let h = same s (weights c.args.rows.now.none.now) ((weights c.args.rows.now.body.now + weights c.args.rows.now.none.now) + 3) (omega arith) in
+    let h = same s (weights c.args.block.now.none.now) ((weights c.args.block.now.body.now + weights c.args.block.now.none.now) + 3) (omega arith) in
     omega (arith, c.decreases)
 
 pub draw_list-draw_rows-requires : goal.draw_list-draw_rows-requires
 draw_list-draw_rows-requires t c =
     let s : Scene = seen c.args.here.now.scene.now in
-    let h = same s (weights c.args.rows.now.body.now + 2) ((weights c.args.rows.now.body.now + weights c.args.rows.now.none.now) + 3) (omega arith) in
-    (omega (arith, c.decreases), c.items_in-items.ensures.few)
+    let h = same s (weights c.args.block.now.body.now + 2) ((weights c.args.block.now.body.now + weights c.args.block.now.none.now) + 3) (omega arith) in
+    omega (arith, c.decreases)
 
 pub draw_on-draw_all-requires : goal.draw_on-draw_all-requires
 draw_on-draw_all-requires t c =
@@ -199,7 +200,7 @@ draw_on-draw_all-requires t c =
 pub draw_rows-draw_on-requires : goal.draw_rows-draw_on-requires
 draw_rows-draw_on-requires t c =
     let s : Scene = seen c.args.here.now.scene.now in
-    let h = same s (weights c.args.rows.now.body.now + 1) (weights c.args.rows.now.body.now + 2) (omega arith) in
+    let h = same s (weights c.args.block.now.body.now + 1) (weights c.args.block.now.body.now + 2) (omega arith) in
     omega (arith, c.decreases)
 
 pub draw_tag-draw_instance-requires : goal.draw_tag-draw_instance-requires

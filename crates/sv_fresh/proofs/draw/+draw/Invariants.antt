@@ -1,10 +1,10 @@
-use Rattle.std.proofs.Common.{◌≡◌, ◌++◌, ◌+◌, drop, map}
+use Rattle.std.proofs.Common.{◌≡◌, ◌++◌, ◌+◌, drop}
 use Rattle.std.specs.Prelude.{slice_get}
-use Rattle.sv_value.specs.View.{view_of}
 use Rattle.sv_plan.specs.Content.{outer_tags}
-use Rattle.sv_fresh.specs.Blocks.{row_view, row_parts}
-use Rattle.sv_fresh.specs.Each.{each}
-use Rattle.sv_fresh.specs.Fresh.{drawn, drawn_all, rows_nodes}
+use Rattle.sv_plan.specs.Lists.{head_of, row_view}
+use Rattle.sv_attributes.specs.Each.{each}
+use Rattle.sv_fresh.specs.Blocks.{row_parts}
+use Rattle.sv_fresh.specs.Fresh.{frag_drawn, drawn_all, rows_nodes}
 use Rattle.sv_fresh.specs.Scene.{Scene, seen}
 use Rattle.sv_fresh.proofs.Weights.{weight, weights, inside, whole}
 use Rattle.sv_fresh.proofs.draw.+draw.Given as goal
@@ -12,14 +12,14 @@ use Rattle.sv_fresh.proofs.draw.+draw.Given as goal
 abbrev pub invariant-draw_all-loop-index : goal.invariant-draw_all-loop-index
 invariant-draw_all-loop-index l =
     let s : Scene = seen l.here.scene.now in
-    l.fn.nodes ++ drawn_all s l.frags l.here.view.now l.shapes ≡ l.nodes ++ each (λ f i. drawn s f l.here.view.now (slice_get l.shapes i)) l.index (drop l.index l.frags)
+    l.fn.nodes ++ drawn_all s l.frags l.here.view.now l.shapes ≡ l.nodes ++ each (λ f i. frag_drawn s f l.here.view.now (slice_get l.shapes i)) l.index (drop l.index l.frags)
 
 abbrev pub invariant-draw_rows-loop-index : goal.invariant-draw_rows-loop-index
 invariant-draw_rows-loop-index l =
     let s : Scene = seen l.here.scene.now in
-    l.fn.nodes ++ rows_nodes l.rows.names (drawn_all s l.rows.body.now) l.here.view.now l.shapes (map view_of l.items)
+    l.fn.nodes ++ rows_nodes (head_of l.block) (drawn_all s l.block.body.now) l.here.view.now l.shapes l.items
     ≡ l.nodes
-    ++ each (λ x i. drawn_all s l.rows.body.now (row_view l.rows.names l.here.view.now x i) (row_parts (slice_get l.shapes i))) l.index (map view_of (drop l.index l.items))
+    ++ each (λ x i. drawn_all s l.block.body.now (row_view (head_of l.block) 0 i x l.here.view.now) (row_parts (slice_get l.shapes i))) l.index (drop l.index l.items)
 
 abbrev pub decreases-draw : goal.decreases-draw
 decreases-draw l = inside (seen l.here.now.scene.now) (weight l.frag.now)
@@ -31,10 +31,10 @@ abbrev pub decreases-draw_children : goal.decreases-draw_children
 decreases-draw_children l = inside (seen l.here.now.scene.now) (weights l.frags.now + 1)
 
 abbrev pub decreases-draw_list : goal.decreases-draw_list
-decreases-draw_list l = inside (seen l.here.now.scene.now) ((weights l.rows.now.body.now + weights l.rows.now.none.now) + 3)
+decreases-draw_list l = inside (seen l.here.now.scene.now) ((weights l.block.now.body.now + weights l.block.now.none.now) + 3)
 
 abbrev pub decreases-draw_rows : goal.decreases-draw_rows
-decreases-draw_rows l = inside (seen l.here.now.scene.now) (weights l.rows.now.body.now + 2)
+decreases-draw_rows l = inside (seen l.here.now.scene.now) (weights l.block.now.body.now + 2)
 
 abbrev pub decreases-draw_on : goal.decreases-draw_on
 decreases-draw_on l = inside (seen l.scene.now) (weights l.frags.now + 1)

@@ -1,8 +1,7 @@
 use Rattle.sv_parts.proofs.Steps.{Left}
-use Rattle.sv_parts.specs.Attributes.{texts_at}
 use Rattle.sv_parts.specs.Sides.{sides}
 use Rattle.sv_parts.specs.State.{one}
-use Rattle.sv_parts.specs.Tags.{offer_step, offers_step}
+use Rattle.sv_parts.specs.Tags.{offer_step, offers_step, texts_at}
 use Rattle.sv_parts.proofs.tags.take_offers.Given as goal
 
 abbrev pub invariant-loop-index : goal.invariant-loop-index

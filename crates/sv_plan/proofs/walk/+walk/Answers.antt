@@ -43,10 +43,10 @@ pub plan_one-plan_key-requires : goal.plan_one-plan_key-requires
 plan_one-plan_key-requires t c = omega (arith, c.decreases, weight-Key _ _ _ c.in-Key.is, ap weights c.as_slice-in-Key.ensures)
 
 pub plan_one-returns-in-Text : goal.plan_one-returns-in-Text
-plan_one-returns-in-Text t c = meets-Text _ _ _ _ _ _ _ _ _ _ c.in-Text.is c.mark_of.ensures c.plan_text.ensures
+plan_one-returns-in-Text t c = meets-Text _ _ _ _ _ _ _ _ _ _ c.in-Text.is c.mark_of.ensures c.plan_literal.ensures
 
 pub plan_one-returns-in-Show : goal.plan_one-returns-in-Show
-plan_one-returns-in-Show t c = meets-Show _ _ _ _ _ _ _ _ _ _ c.in-Show.is c.mark_of-in-Show.ensures c.plan_show.ensures
+plan_one-returns-in-Show t c = meets-Show _ _ _ _ _ _ _ _ _ c.in-Show.is c.plan_show.ensures
 
 pub plan_one-returns-in-Element : goal.plan_one-returns-in-Element
 plan_one-returns-in-Element t c = meets-Element _ _ _ _ _ _ _ _ _ _ _ _ _ _ c.in-Element.is c.as_slice.ensures c.as_slice-in-Element.ensures c.plan_element.ensures

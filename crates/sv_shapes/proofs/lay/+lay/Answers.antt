@@ -1,10 +1,13 @@
 use Rattle.std.proofs.Common.{ap, refl, ◌∙◌, rules}
 use Rattle.sv_shapes.specs.Typed.{laid_all, laid_rows}
-use Rattle.sv_shapes.proofs.Laying.{in-Text, in-Nothing, in-Tag, in-Element, in-Slot, in-If, in-Each, in-Key, rows-more}
+use Rattle.sv_shapes.proofs.Laying.{in-Literal, in-Text, in-Nothing, in-Tag, in-Element, in-Slot, in-If, in-Each, in-Key, rows-more}
 use Rattle.sv_shapes.proofs.lay.+lay.Goals as goal
 
-pub lay_one-returns-in-Text : goal.lay_one-returns-in-Text
-lay_one-returns-in-Text t c = in-Text _ _ _ _ c.in-Text.is
+pub lay_one-returns-in-Literal : goal.lay_one-returns-in-Literal
+lay_one-returns-in-Literal t c = in-Literal _ _ _ _ c.in-Literal.is
+
+pub lay_one-returns-in_ok-share-in-Text : goal.lay_one-returns-in_ok-share-in-Text
+lay_one-returns-in_ok-share-in-Text t c = in-Text _ _ _ _ _ _ c.in-Text.is c.in_ok-share-in-Text.ensures
 
 pub lay_one-returns-in-Nothing : goal.lay_one-returns-in-Nothing
 lay_one-returns-in-Nothing t c = in-Nothing _ _ _ c.in-Nothing.is
@@ -14,7 +17,7 @@ lay_one-returns-in_ok-share_all_texts-in-Tag t c = in-Tag _ _ _ _ _ _ c.in-Tag.i
 
 pub lay_one-returns-in_ok-lay_all-in-Element : goal.lay_one-returns-in_ok-lay_all-in-Element
 lay_one-returns-in_ok-lay_all-in-Element t c =
-    in-Element _ _ _ _ _ _ _ _ _ _ c.in-Element.is (search rules) (c.in_ok-share_all_texts-in-Element.ensures ∙ c.as_slice.ensures)
+    in-Element _ _ _ _ _ _ _ _ _ _ c.in-Element.is (search rules) (c.in_ok-share_states-in-Element.ensures ∙ c.as_slice.ensures)
     (c.in_ok-lay_all-in-Element.ensures ∙ ap (λ ps. laid_all c.args.mark c.args.typed.now ps) c.as_slice-in-Element.ensures)
 
 pub lay_one-returns-in_ok-lay_all-in-Slot : goal.lay_one-returns-in_ok-lay_all-in-Slot

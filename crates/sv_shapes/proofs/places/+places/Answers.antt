@@ -1,6 +1,6 @@
 use Rattle.std.proofs.Common.{ap, sym, ◌∙◌, ◌++◌}
 use Rattle.sv_shapes.specs.Places.{places_all, places_rows}
-use Rattle.sv_shapes.proofs.Tagging.{all-more, all-end, rows-more, rows-end, in-nothing, in-Text, in-Nothing, in-Tag, in-Element, in-Slot, in-If, in-Each, in-Key, finds, finds-both}
+use Rattle.sv_shapes.proofs.Tagging.{all-more, all-end, rows-more, rows-end, in-nothing, in-Literal, in-Text, in-Nothing, in-Tag, in-Element, in-Slot, in-If, in-Each, in-Key, finds, finds-both}
 use Rattle.sv_shapes.proofs.places.+places.Goals as goal
 
 pub add_all-loop-part-preserved : goal.add_all-loop-part-preserved
@@ -15,8 +15,11 @@ add_rows-loop-row-preserved t c = c.loop-row.invariant ∙ rows-more _ _ _ _ _ c
 pub add_rows-returns : goal.add_rows-returns
 add_rows-returns t c = sym (c.loop-row.invariant ∙ rows-end _ _ _ c.loop-row-test.false)
 
+pub add_one-returns-in-Literal : goal.add_one-returns-in-Literal
+add_one-returns-in-Literal t c = in-nothing _ _ (in-Literal _ _ c.in-Literal.is)
+
 pub add_one-returns-in-Text : goal.add_one-returns-in-Text
-add_one-returns-in-Text t c = in-nothing _ _ (in-Text _ _ c.in-Text.is)
+add_one-returns-in-Text t c = in-nothing _ _ (in-Text _ _ _ c.in-Text.is)
 
 pub add_one-returns-in-Nothing : goal.add_one-returns-in-Nothing
 add_one-returns-in-Nothing t c = in-nothing _ _ (in-Nothing _ c.in-Nothing.is)
