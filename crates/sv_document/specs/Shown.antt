@@ -44,6 +44,10 @@ checked_or None other = other
 checked_or (Some (typed.Text text)) other = other
 checked_or (Some (typed.Checked checked)) other = checked
 
+-- the text that an element shows as its `id`
+abbrev pub shown_id : Element → Option (List ℕ)
+shown_id e = text_at (codes "id") e.attributes
+
 -- an element shows as checked
 abbrev pub is_checked : Element → Bool
 is_checked e = checked_or e.typed (is_some (value_at (codes "checked") e.attributes))

@@ -53,6 +53,13 @@ impl Element {
         }
     }
 
+    /// The text that it shows as its `id`; `None` exactly where it shows none.
+    pub fn shown_id(&self) -> Option<&str>
+        ensures { option_map (λ t. t.now) result ≡ spec.shown_id self.now }
+    {
+        self.text_at("id")
+    }
+
     /// Whether it shows as checked: as it was left, or else where it has the attribute `checked`.
     pub fn is_checked(&self) -> bool
         ensures { result ≡ spec.is_checked self.now }

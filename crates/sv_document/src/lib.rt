@@ -15,6 +15,6 @@ pub use element::{Attributes, Element, Listeners};
 pub use laws::{one_number, shown_as_printed};
 pub use listener::{Binding, Directive, Listener};
 pub use numbers::Numbers;
-pub use path::target;
+pub use path::{at_places, target};
 pub use printed::print;
 pub use tree::{Node, Nodes};

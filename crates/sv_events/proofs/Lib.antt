@@ -1,3 +1,4 @@
 pub mod Keys
 pub mod Telling
 pub mod Json
+pub mod Places

@@ -5,8 +5,10 @@ use Rattle.std.specs.Str.{is_utf8}
 use Rattle.serde_json.specs.Data.{Data}
 use Rattle.serde_json.specs.Read.{read}
 use Rattle.sv_base.specs.declared.limits.TheConstants.{EVENT_LIMIT}
-use Rattle.sv_events.specs.Form.{event_of, items_in, list_of}
+use Rattle.sv_events.specs.Form.{event_of, version_of, items_in}
+use Rattle.sv_events.specs.Target.{list_of}
 use Rattle.sv_events.specs.declared.event.Event.{Event}
+use Rattle.sv_events.specs.declared.form.Version.{Version}
 use Rattle.sv_events.specs.declared.refusal.EventsError.{EventsError}
 use Rattle.sv_events.specs.declared.refusal.EventsError.TheVariants.{NotJson, BadForm, TooMany, BadShape, NoMemory}
 
@@ -29,23 +31,24 @@ first_then at None told = Err (BadShape at)
 first_then at (Some event) told = behind (event ∷ []) told
 
 -- the events of values that are counted from this number on, or the first that is none
-abbrev pub each_event : (at : ℕ) → List Data → Told
-each_event at [] = Ok []
-each_event at (d ∷ ds) = first_then at (event_of d) (each_event (at + 1) ds)
+abbrev pub each_event : Version → (at : ℕ) → List Data → Told
+each_event version at [] = Ok []
+each_event version at (d ∷ ds) = first_then at (event_of version d) (each_event version (at + 1) ds)
 
 -- the events of a list, where it isn't too long
-abbrev pub listed : List Data → Told
-listed ds = if nat_lt EVENT_LIMIT (length ds) then Err TooMany else each_event 0 ds
+abbrev pub listed : Version → List Data → Told
+listed version ds = if nat_lt EVENT_LIMIT (length ds) then Err TooMany else each_event version 0 ds
 
--- the events of a value that has the form of a file
-abbrev pub in_form : Option (List Data) → Told
-in_form None = Err BadForm
-in_form (Some ds) = listed ds
+-- the events of a list in a file of some version, where there are both
+abbrev pub in_form : Option Version → Option (List Data) → Told
+in_form None ds = Err BadForm
+in_form (Some version) None = Err BadForm
+in_form (Some version) (Some ds) = listed version ds
 
 -- the events of a value
 abbrev pub in_json : Option Data → Told
 in_json None = Err NotJson
-in_json (Some d) = in_form (option_map list_of (items_in d))
+in_json (Some d) = in_form (version_of d) (option_map list_of (items_in d))
 
 -- the events of a file
 abbrev pub events_of : List ℕ → Told

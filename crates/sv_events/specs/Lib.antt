@@ -1,4 +1,5 @@
 pub mod Members
+pub mod Target
 pub mod Form
 pub mod EventsFile
 pub mod Shape

@@ -22,9 +22,13 @@ has_only may (string s) = false
 has_only may (array ds) = false
 has_only may (object ms) = keys_pass may ms
 
+-- a text that isn't empty
+abbrev pub filled_text : Data → Option (List ℕ)
+filled_text d = passing (λ t. nat_lt 0 (length t)) (as_str d)
+
 -- the text of a member that is there and isn't empty
 abbrev pub filled : List ℕ → Data → Option (List ℕ)
-filled key d = passing (λ t. nat_lt 0 (length t)) (option_and_then as_str (get key d))
+filled key d = option_and_then filled_text (get key d)
 
 -- a member that may be missing, and is of a kind where it isn't
 abbrev pub optional : {A : Type 0} → (Data → Option A) → Option Data → Option (Option A)

@@ -2,33 +2,22 @@
 ghost use Rattle.std.specs.Prelude.{◌≡◌, ◌≤◌, length, map, IfOk};
 ghost use Rattle.serde_json.specs.View.{view};
 ghost use Rattle.sv_events.specs.EventsFile.{Answers, each_event, listed, in_json, events_of};
-ghost use Rattle.sv_events.specs.Form.{event_of};
 
 use crate::event::Event;
-use crate::form::{items_in, shape_of};
+use crate::form::{Version, event_of, items_in, version_of};
 use crate::refusal::EventsError;
 use serde_json::Value;
 use std::alloc::Global;
 use sv_base::{EVENT_LIMIT, NoMemory};
 
-// The event that a value is.
-fn event_of(alloc: Global, value: &Value) -> Result<Option<Event>, NoMemory>
-    ensures { IfOk result (λ event. event ≡ event_of (view value.now)) }
-{
-    match shape_of(value) {
-        None => Ok(None),
-        Some(shape) => Ok(Some(shape.event(alloc)?)),
-    }
-}
-
 // The events of a list that isn't too long.
-fn each_event(alloc: Global, values: &[Value]) -> Result<Vec<Event>, EventsError>
+fn each_event(alloc: Global, version: Version, values: &[Value]) -> Result<Vec<Event>, EventsError>
     requires { length values.now ≤ EVENT_LIMIT }
-    ensures { Answers result (each_event 0 (map view values.now)) }
+    ensures { Answers result (each_event version 0 (map view values.now)) }
 {
     let mut events = Vec::new(alloc);
     for (at, value) in values.iter().enumerate() {
-        let Some(event) = event_of(alloc, value)? else {
+        let Some(event) = event_of(alloc, version, value)? else {
             return Err(EventsError::BadShape(at as u32));
         };
         events.push(event)?;
@@ -37,23 +26,26 @@ fn each_event(alloc: Global, values: &[Value]) -> Result<Vec<Event>, EventsError
 }
 
 // The events of a list.
-fn listed(alloc: Global, values: &[Value]) -> Result<Vec<Event>, EventsError>
-    ensures { Answers result (listed (map view values.now)) }
+fn listed(alloc: Global, version: Version, values: &[Value]) -> Result<Vec<Event>, EventsError>
+    ensures { Answers result (listed version (map view values.now)) }
 {
     if values.len() > EVENT_LIMIT {
         return Err(EventsError::TooMany);
     }
-    each_event(alloc, values)
+    each_event(alloc, version, values)
 }
 
 // The events of a JSON value.
 fn in_json(alloc: Global, value: &Value) -> Result<Vec<Event>, EventsError>
     ensures { Answers result (in_json (Some (view value.now))) }
 {
-    match items_in(value) {
-        None => Err(EventsError::BadForm),
-        Some(values) => listed(alloc, values),
-    }
+    let Some(version) = version_of(value) else {
+        return Err(EventsError::BadForm);
+    };
+    let Some(values) = items_in(value) else {
+        return Err(EventsError::BadForm);
+    };
+    listed(alloc, version, values)
 }
 
 /// The events that the bytes of an events file tell, in order, or the first cause why they tell none.

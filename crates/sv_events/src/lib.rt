@@ -1,4 +1,4 @@
-//! The events file: what its JSON has to be, and the events of a run that it tells.
+//! The events file: what its JSON has to be, in its two versions, and the events of a run that it tells.
 #![tactic(auto)]
 
 mod event;
@@ -6,7 +6,8 @@ mod file;
 mod form;
 mod members;
 mod refusal;
+mod target;
 
-pub use event::Event;
+pub use event::{Event, PATH_LIMIT, Path, Target};
 pub use file::read_events;
 pub use refusal::EventsError;

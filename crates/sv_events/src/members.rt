@@ -5,12 +5,19 @@ ghost use Rattle.sv_events.specs.Members as spec;
 
 use serde_json::Value;
 
+// A text that isn't empty.
+pub(crate) fn filled_text(value: &Value) -> Option<&str>
+    ensures { option_map (λ t. t.now) result ≡ spec.filled_text (view value.now) }
+{
+    let text = value.as_str()?;
+    if text.is_empty() { None } else { Some(text) }
+}
+
 // The text of a member that is there and isn't empty.
 pub(crate) fn filled<'a>(value: &'a Value, key: &str) -> Option<&'a str>
     ensures { option_map (λ t. t.now) result ≡ spec.filled key.now (view value.now) }
 {
-    let text = value.get(key)?.as_str()?;
-    if text.is_empty() { None } else { Some(text) }
+    filled_text(value.get(key)?)
 }
 
 // The text of a member that may be missing.

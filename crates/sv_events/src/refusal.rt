@@ -12,7 +12,7 @@ pub enum EventsError {
     /// The bytes are no JSON.
     #[error("NotJson")]
     NotJson,
-    /// The JSON is no object with the version 1 and a list of events, and nothing else.
+    /// The JSON is no object with the version 1 or 2 and a list of events, and nothing else.
     #[error("BadForm")]
     BadForm,
     /// There are more than `EVENT_LIMIT` events.

@@ -10,8 +10,8 @@ use Rattle.sv_input.specs.Number.{number_or_null}
 use Rattle.sv_meaning.specs.Outcome.{Ends, Deed, then_do, left, answered}
 use Rattle.sv_meaning.specs.Runs.{world_ground}
 use Rattle.sv_meaning.specs.Sight.{set}
-use Rattle.sv_ops.specs.Answer.{Answer, gives, made}
-use Rattle.sv_value.specs.Value.{Val, boolean, text}
+use Rattle.sv_ops.specs.Answer.{Answer, gives, text_made}
+use Rattle.sv_value.specs.Value.{Val, boolean}
 
 -- the variable of a binding of an instance is assigned a value
 abbrev pub assigned : Program → ℕ → Binding → Val → Deed (Unit {0})
@@ -19,7 +19,7 @@ assigned p inst b v w = then_do (left (set (world_ground p) inst b.target v b.sp
 
 -- what a typed text is as a value: for an input of numbers the number or `null`, else the text, where it isn't too large
 abbrev pub typed_value : Bool → List ℕ → Answer
-typed_value numbers t = if numbers then gives (number_or_null t) else made 0 (text t)
+typed_value numbers t = if numbers then gives (number_or_null t) else text_made t
 
 -- what an event of this name carries to the target's own directive
 abbrev pub carried : {A : Type 0} → List ℕ → Delivery → (here : Bool) → Option A → Option A

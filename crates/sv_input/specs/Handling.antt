@@ -42,7 +42,7 @@ heard_result d at s (Err f) w = Fails f.kind f.span w
 
 abbrev pub heard_on : Option View → Delivery → Span → Part → Deed (Unit {0})
 heard_on None d at part w = Ends tt w
-heard_on (Some v) d at part w = heard_result d at part.span (part_value d.program v part.code) w
+heard_on (Some v) d at part w = heard_result d at part.span (part_value d.program v part) w
 
 -- the listeners of the component's own tag are told
 abbrev pub passed_on : Delivery → Span → ℕ → Deed (Unit {0})

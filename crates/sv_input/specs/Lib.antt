@@ -1,3 +1,4 @@
+pub mod Named
 pub mod Number
 pub mod Typed
 pub mod Delivery

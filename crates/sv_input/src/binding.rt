@@ -9,10 +9,11 @@ ghost use Rattle.sv_ops.specs.Answers.{Answers};
 
 use crate::delivery::{Delivery, Desk};
 use crate::number::number_in;
-use sv_base::{NoMemory, Text, VALUE_SIZE_LIMIT};
+use sv_base::Text;
+use sv_code::Arrows;
 use sv_document::Binding;
 use sv_meaning::{CALL_LIMIT, Context, EvalError, Locals, answer};
-use sv_ops::{FaultKind, Given, OpError};
+use sv_ops::{Given, OpError, text_value};
 use sv_value::{Inst, Value};
 use sv_world::World;
 
@@ -30,25 +31,14 @@ fn assign(
         alloc: desk.alloc,
         program: desk.program,
         sight: None,
+        arrows: Arrows { from: 0, to: 0 },
+        is_own: false,
         owner: inst,
         room: CALL_LIMIT,
     };
     let mut locals = Locals::new(desk.alloc);
     context.set(world, &mut locals, binding.target, value, binding.span)?;
     Ok(())
-}
-
-// A text as a value.
-fn text_value(text: &Text) -> Result<Given, OpError>
-    ensures { Answers result (spec.typed_value false text.now) }
-{
-    if text.as_str().len() >= VALUE_SIZE_LIMIT as usize {
-        return Err(OpError::Fault(FaultKind::Large));
-    }
-    Ok(Given {
-        value: Value::Text(text.share()?),
-        cost: 0,
-    })
 }
 
 // The number that a text writes, as a value, or `null`.

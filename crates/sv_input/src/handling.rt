@@ -118,7 +118,7 @@ fn tell_part(
     let Some(view) = listener_view(desk.alloc, world, listener)? else {
         return Ok(());
     };
-    let value = eval_part(desk.alloc, desk.program, &view, &part.code)?;
+    let value = eval_part(desk.alloc, desk.program, &view, part)?;
     call_value(delivery, world, at, part.span, &value)
 }
 

@@ -66,7 +66,8 @@ fn target_object(delivery: &Delivery) -> Result<Given, OpError>
     ensures { Answers result (object_made (spec.target_fields (seen delivery.now))) }
 {
     let alloc = delivery.desk.alloc;
-    let id = field(alloc, "id", Value::Text(delivery.desk.event.id.share()?))?;
+    let text = Text::new(alloc, delivery.target.shown_id().unwrap_or(""))?;
+    let id = field(alloc, "id", Value::Text(text))?;
     let text = Text::new(alloc, value_shown(delivery))?;
     let value = field(alloc, "value", Value::Text(text))?;
     let checked = field(alloc, "checked", Value::Bool(checked_shown(delivery)))?;

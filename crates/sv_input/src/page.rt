@@ -1,7 +1,7 @@
 // What an event does to a page.
-ghost use Rattle.std.specs.Prelude.{◌≡◌, map};
-ghost use Rattle.sv_document.specs.Target.{target};
+ghost use Rattle.std.specs.Prelude.{◌≡◌, IfOk, map, option_map};
 ghost use Rattle.sv_input.specs.Lasts.{Lasts};
+ghost use Rattle.sv_input.specs.Named.{named};
 ghost use Rattle.sv_input.specs.Typed.{taken, laid, laid_down};
 ghost use Rattle.sv_input.specs.Walk.{delivery, walked, dispatched};
 ghost use Rattle.sv_meaning.specs.Gives.{EndsAs};
@@ -9,7 +9,10 @@ ghost use Rattle.sv_meaning.specs.Gives.{EndsAs};
 use crate::delivery::{Delivery, Desk};
 use crate::typed::{lay_down, taken};
 use crate::walk::walk;
-use sv_document::{Element, Node, target};
+use std::alloc::Global;
+use sv_base::NoMemory;
+use sv_document::{Element, Node, at_places};
+use sv_events::Target;
 use sv_meaning::EvalError;
 use sv_shapes::Showing;
 use sv_world::World;
@@ -35,10 +38,24 @@ fn deliver<'a>(
     walk(&delivery, world, outer)
 }
 
+// The element that an event names, and each one round it.
+fn named<'a>(
+    alloc: Global,
+    target: &Target,
+    nodes: &'a [Node],
+) -> Result<Option<Vec<&'a Element>>, NoMemory>
+    ensures { IfOk result (λ found. option_map (λ path. map (λ e. e.now) path.items) found ≡ named target.now nodes.now) }
+{
+    match target {
+        Target::Id(id) => sv_document::target(alloc, nodes, id.as_str()),
+        Target::Path(places) => at_places(alloc, nodes, places.as_slice()),
+    }
+}
+
 /// What an event does to a page before the flush (DOM Standard, 'Dispatching events'; Svelte 4 docs, 'on:eventname' and 'bind:property' of
-/// elements). The first element of these nodes that shows its `id` is the target and takes what a user left in it. Then the directives that hear of
-/// the event run, from the target to the outermost element, those of an element in the order of the text. `false` exactly where no element shows
-/// the `id`, and then nothing is done.
+/// elements). The element of these nodes that it names is the target and takes what a user left in it. Then the directives that hear of
+/// the event run, from the target to the outermost element, those of an element in the order of the text. `false` exactly where there is no
+/// such element, and then nothing is done.
 ///
 /// A fault is the first that a directive meets: what its expression and the function that it calls meet, each at its own place;
 /// `NotAFunction` at an expression whose value can't be called; `Large` at a directive for which the typed text, or the event's object, is too
@@ -49,10 +66,10 @@ pub fn dispatch(
     showing: &mut Showing,
     nodes: &[Node],
 ) -> Result<bool, EvalError>
-    ensures world { EndsAs (λ found. found) result world.new (dispatched desk.now.program.now desk.now.event.now (target desk.now.event.now.id nodes.now) world.old) }
-    ensures showing { Lasts result (showing.new ≡ laid_down (target desk.now.event.now.id nodes.now) desk.now.event.now showing.old) }
+    ensures world { EndsAs (λ found. found) result world.new (dispatched desk.now.program.now desk.now.event.now (named desk.now.event.now.target nodes.now) world.old) }
+    ensures showing { Lasts result (showing.new ≡ laid_down (named desk.now.event.now.target nodes.now) desk.now.event.now showing.old) }
 {
-    let Some(path) = target(desk.alloc, nodes, desk.event.id.as_str())? else {
+    let Some(path) = named(desk.alloc, &desk.event.target, nodes)? else {
         return Ok(false);
     };
     let Some((element, outer)) = path.split_first() else {

@@ -2,6 +2,7 @@
 use Rattle.std.specs.Prelude.{ℕ, List, [], ◌∷◌, ◌++◌, None, codes, decimal}
 use Rattle.std.proofs.Math.ListN.{replicate}
 use Rattle.sv_events.specs.declared.event.Event.{Event}
+use Rattle.sv_events.specs.declared.event.Target.TheVariants.{Id}
 use Rattle.sv_io.specs.Files.{Files}
 use Rattle.sv_run.specs.declared.generate.TheConstants.{ROOT, HEAD, MIDDLE, TAIL}
 
@@ -19,7 +20,7 @@ generated count = (root_name, component_text count) ∷ []
 
 -- a click on its button
 abbrev pub click : Event
-click = record { name = codes "click"; id = codes "s"; value = None; checked = None; key = None }
+click = record { name = codes "click"; target = Id (codes "s"); value = None; checked = None; key = None }
 
 -- as many clicks as its number says
 abbrev pub clicks : ℕ → List Event

@@ -12,7 +12,7 @@ use crate::refusals::{not_loaded, unclean};
 use std::alloc::Global;
 use sv_base::{NoMemory, Text};
 use sv_check::{Checked, check};
-use sv_events::Event;
+use sv_events::{Event, Target};
 use sv_io::{Got, Shelf, ShelfError};
 use sv_load::load;
 
@@ -108,7 +108,7 @@ fn click(alloc: Global) -> Result<Event, NoMemory>
 {
     Ok(Event {
         name: Text::new(alloc, "click")?,
-        id: Text::new(alloc, "s")?,
+        target: Target::Id(Text::new(alloc, "s")?),
         value: None,
         checked: None,
         key: None,

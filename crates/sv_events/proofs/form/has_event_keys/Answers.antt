@@ -9,5 +9,5 @@ use Rattle.sv_events.proofs.form.has_event_keys.Goals as goal
 pub returns : goal.returns
 returns c =
     let es = c.args.members.now.entries in
-    all_from_yields_List (λ key. (spec.may_have c.args.name.now) (string_bytes key)) _ _ c.all.result c.all.ensures.ran (YieldsList-from_rest (keys_of es) c.keys.ensures.rest) (λ x b q k. search (rules, tests))
-    ∙ keys_passed (spec.may_have c.args.name.now) es
+    all_from_yields_List (λ key. (spec.may_have c.args.version c.args.name.now) (string_bytes key)) _ _ c.all.result c.all.ensures.ran (YieldsList-from_rest (keys_of es) c.keys.ensures.rest) (λ x b q k. search (rules, tests))
+    ∙ keys_passed (spec.may_have c.args.version c.args.name.now) es
