@@ -5,23 +5,30 @@ use Rattle.std.proofs.lemmas.List.Elements.{All-nil}
 use Rattle.std.proofs.lemmas.Option.{none-some}
 use Rattle.sv_flush.proofs.Playing.{Tracked}
 use Rattle.sv_flush.specs.Page.{blank}
+use Rattle.sv_frame.specs.Snapshots.{snapshots}
+use Rattle.sv_numbered.specs.Numbered.{at}
 use Rattle.sv_states.specs.Empty.{no_states}
 use Rattle.sv_states.specs.Sound.{IsSound, IsSeen, has_changed, has_subscription}
 use Rattle.sv_states.specs.States.{live}
 use Rattle.sv_states.specs.Waiting.{is_waiting}
 
-nobody : (n : ℕ) → live no_states n ≡ None
-nobody zero = refl
-nobody (suc n) = refl
+none_live : (n : ℕ) → live no_states n ≡ None
+none_live zero = refl
+none_live (suc n) = refl
 
 sound : IsSound no_states
 sound = record {
-  seen = λ n. subst IsSeen (sym (nobody n)) tt;
-  queued = λ n. ap (λ o. cond (is_waiting o) 1 0) (sym (nobody n));
-  shown = λ n w. absurd (true≢false (sym w ∙ ap is_waiting (nobody n)));
-  dirty = λ n c w. absurd (true≢false (sym w ∙ ap (λ o. has_changed o c) (nobody n)));
-  subscribed = λ n c id. ap (λ o. has_subscription o c id) (sym (nobody n));
+  seen = λ n. subst IsSeen (sym (none_live n)) tt;
+  queued = λ n. ap (λ o. cond (is_waiting o) 1 0) (sym (none_live n));
+  shown = λ n w. absurd (true≢false (sym w ∙ ap is_waiting (none_live n)));
+  due = λ n w. absurd (true≢false (sym w ∙ ap is_waiting (none_live n)));
+  dirty = λ n c w. absurd (true≢false (sym w ∙ ap (λ o. has_changed o c) (none_live n)));
+  subscribed = λ n c id. ap (λ o. has_subscription o c id) (sym (none_live n));
 }
 
+nobody_saw : (n : ℕ) → at (snapshots no_states) n ≡ None
+nobody_saw zero = refl
+nobody_saw (suc n) = refl
+
 pub blank_tracked : Tracked blank
-blank_tracked = record { sound = sound; records = record { made = All-nil _; seen = λ n s x there is. absurd (none-some x is) } }
+blank_tracked = record { sound = sound; records = record { made = All-nil _; whole = λ n x free there. absurd (none-some x (sym (nobody_saw n) ∙ there)); seen = λ n s x there is. absurd (none-some x is) } }

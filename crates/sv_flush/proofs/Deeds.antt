@@ -1,5 +1,5 @@
 -- Deeds for the items of a list that code has in another form.
-use Rattle.std.proofs.Common.{◌≡◌, ℕ, suc, ◌<◌, List, [], ◌∷◌, length, map, drop, get_or, Result, Ok, Err, refl, sym, ap, subst, drop-cons}
+use Rattle.std.proofs.Common.{◌≡◌, ℕ, suc, ◌+◌, ◌<◌, List, [], ◌∷◌, length, map, drop, get_or, Result, Ok, Err, refl, sym, ap, subst, ◌∙◌, arith, drop-cons}
 use Rattle.std.specs.Result.{IsErrAnd}
 use Rattle.sv_meaning.specs.Gives.{EndsAs}
 use Rattle.sv_meaning.specs.declared.errors.EvalError.{EvalError}
@@ -31,3 +31,13 @@ deed-exit deed all xs i x w next e r (Ok u) h lt is was m k = absurd k
 deed-exit deed all xs i x w next e r (Err y) h lt is was m k =
     let met : Ending-of (Err e) next (each_in_turn deed (drop i xs) w) = refused deed xs i x w next e lt is (subst (λ z. Ending-of z next (deed x w)) was m) in
     subst (λ o. Ending-of (Err y) next o) (sym h) (subst (λ z. Ending-of (Err z) next (each_in_turn deed (drop i xs) w)) (sym k) met)
+
+-- the next item, where the deed for one ended
+pub deed-next : {A : Type 0} (deed : A → Deed (Unit {0})) (all : Ending (Unit {0})) (xs : List A) (i : ℕ) (x : A) (w next : World) (r : Result (Unit {0}) EvalError) (u : Unit {0})
+    → all ≡ each_in_turn deed (drop i xs) w → i < length xs → x ≡ get_or xs i x → r ≡ Ok u → Ending-of r next (deed x w) → all ≡ each_in_turn deed (drop (i + 1) xs) next
+deed-next deed all xs i x w next r u h lt is was m =
+    let further : suc i ≡ i + 1 = omega arith in
+    h ∙ step (subst (λ z. Ending-of z next (deed x w)) was m) ∙ ap (λ k. each_in_turn deed (drop k xs) next) further
+  where
+    step : deed x w ≡ Ends u next → each_in_turn deed (drop i xs) w ≡ each_in_turn deed (drop (suc i) xs) next
+    step e = rw (drop-cons xs i x, ← is) (ap (λ o. then_do o (λ _. each_in_turn deed (drop (suc i) xs))) e)

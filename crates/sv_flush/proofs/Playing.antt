@@ -7,14 +7,14 @@ use Rattle.sv_code.specs.declared.program.Component.{Component}
 use Rattle.sv_code.specs.declared.program.Program.{Program}
 use Rattle.sv_code.specs.declared.tags.Tag.{Tag}
 use Rattle.sv_flush.proofs.Bringing.{Afterwards, Brings, brings_then, nothing_brings, changed_brings, each_brings, child_brings, settled_brings}
-use Rattle.sv_flush.proofs.Recording.{RecordsBut, records-gone, records-snapped, records-but, records-dead, records-shown}
+use Rattle.sv_flush.proofs.Recording.{Only, RecordsBut, records-weaker, records-gone, records-snapped, records-but, records-dead, records-shown}
 use Rattle.sv_flush.proofs.Tracking.{Tracks, tracks_stay, tracks-bound, tracks-viewed, tracks-setting, tracks-added}
 use Rattle.sv_flush.specs.Callbacks.{callbacks_of, nowhere, called_back, all_called_back, returned, mounted_by, all_mounted, called_if, unless, after}
-use Rattle.sv_flush.specs.Creation.{next, too_deep, snapshot, readied, after_waits, cell_count, Site, born_at, is_too_deep, made_of, made, mount_waits, started, passed, binds, placed, attached, site_of, grown, created, tag_task, child_set, effect_by, created_in, effects, root_site, mounted}
-use Rattle.sv_flush.specs.Destruction.{gone, taken, destroyed_by, children_destroyed, destroyed}
+use Rattle.sv_flush.specs.Creation.{next, too_deep, snapshot, readied, after_waits, cell_count, Site, born_at, born_here, is_too_deep, made_of, made, mount_waits, started, passed, binds, placed, attached, site_of, grown, created, tag_task, child_set, effect_by, created_in, effects, root_site, mounted}
+use Rattle.sv_flush.specs.Destruction.{gone, taken, child_task, destroyed_by, children_destroyed, destroyed}
 use Rattle.sv_flush.specs.Flush.{updated, bound_last_first, all_bound, rendered_one, round, flush_ended, flushed}
-use Rattle.sv_flush.specs.Outcome.{Outcome, Done, Halted, Task, in_world, ended, scripted, work, work_if}
-use Rattle.sv_flush.specs.Records.{Records}
+use Rattle.sv_flush.specs.Outcome.{Outcome, Done, Halted, Step, Task, and_then, in_world, ended, scripted, work, work_if}
+use Rattle.sv_flush.specs.Records.{Records, nobody}
 use Rattle.sv_flush.specs.Rounds.{Binding, Waiting, mounting, after_update, has_run, with_ran, waiting_callbacks}
 use Rattle.sv_flush.specs.Setting.{stays, prop_set, props_set, setting, set, lent_to, lent_if}
 use Rattle.sv_flush.specs.Showing.{tag_shown, tag_kept, tags_kept, followed, patched_on, patched_now, shown}
@@ -53,20 +53,25 @@ use Rattle.sv_view.specs.Level.{View}
 use Rattle.sv_world.specs.World.{present_view}
 use Rattle.sv_world.specs.declared.world.World.{World}
 
+-- the records of a page go with its states, but for some instances
+abbrev pub TrackedBut : (ℕ → Type 0) → Page → Type 0
+TrackedBut But m = Tracks But m.showing.shown m.world.states
+
 abbrev pub Tracked : Page → Type 0
-Tracked m = Tracks m.showing.shown m.world.states
+Tracked = TrackedBut nobody
 
-world_brings : (f : World → World) → ((shown : List (ℕ × Shown)) (w : World) → Tracks shown w.states → Tracks shown (f w).states) → Brings Tracked Tracked (in_world f)
-world_brings f k = record { held = λ m h. k m.showing.shown m.world h }
+ended_tracked : (But : ℕ → Type 0) (m : Page) (e : Ending (Unit {0})) → Left (Tracks But m.showing.shown) e → Afterwards (TrackedBut But) (ended m e)
+ended_tracked But m (Ends a w) h = h
+ended_tracked But m (Fails k s w) h = tt
 
--- ---- scripts and callbacks
+module _ {But : ℕ → Type 0} where
+  world_brings : (f : World → World) → ((shown : List (ℕ × Shown)) (w : World) → Tracks But shown w.states → Tracks But shown (f w).states) → Brings (TrackedBut But) (TrackedBut But) (in_world f)
+  world_brings f k = record { held = λ m h. k m.showing.shown m.world h }
 
-ended_tracked : (m : Page) (e : Ending (Unit {0})) → Left (Tracks m.showing.shown) e → Afterwards Tracked (ended m e)
-ended_tracked m (Ends a w) h = h
-ended_tracked m (Fails k s w) h = tt
+  -- ---- scripts and callbacks
 
-scripted_tracked : {deed : Deed (Unit {0})} → ((shown : List (ℕ × Shown)) → Leaves (Tracks shown) deed) → Brings Tracked Tracked (scripted deed)
-scripted_tracked {deed = deed} k = record { held = λ m h. ended_tracked m (deed m.world) ((k m.showing.shown).held m.world h) }
+  scripted_tracked : {deed : Deed (Unit {0})} → ((shown : List (ℕ × Shown)) → Leaves (Tracks But shown) deed) → Brings (TrackedBut But) (TrackedBut But) (scripted deed)
+  scripted_tracked {deed = deed} k = record { held = λ m h. ended_tracked But m (deed m.world) ((k m.showing.shown).held m.world h) }
 
 module _ {P : States → Type 0} (stay : Stays P) (p : Program) where
   back_leaves : (v : Val) → Leaves P (called_back p v)
@@ -98,38 +103,39 @@ module _ {P : States → Type 0} (stay : Stays P) (p : Program) where
   unless_leaves true k = ends_leaves tt
   unless_leaves false k = k
 
-after_tracked : (p : Program) (n at : ℕ) → Brings Tracked Tracked (after p n at)
-after_tracked p n at = record {
-  held = λ m h. (scripted_tracked {deed = unless (has_run m.rounds n at) (λ w. called_if p (slice_get (callbacks_of w n After) at) w)}
-      (λ shown. unless_leaves (tracks_stay shown) p (has_run m.rounds n at) (record { held = λ w k. (called_if_leaves (tracks_stay shown) p (slice_get (callbacks_of w n After) at)).held w k }))).held
-      (record m { rounds = with_ran m.rounds n at }) h;
-}
+module _ {But : ℕ → Type 0} where
+  after_tracked : (p : Program) (n at : ℕ) → Brings (TrackedBut But) (TrackedBut But) (after p n at)
+  after_tracked p n at = record {
+    held = λ m h. (scripted_tracked {deed = unless (has_run m.rounds n at) (λ w. called_if p (slice_get (callbacks_of w n After) at) w)}
+        (λ shown. unless_leaves (tracks_stay shown) p (has_run m.rounds n at) (record { held = λ w k. (called_if_leaves (tracks_stay shown) p (slice_get (callbacks_of w n After) at)).held w k }))).held
+        (record m { rounds = with_ran m.rounds n at }) h;
+  }
 
--- ---- what is handed down
+  -- ---- what is handed down
 
-if_tracked : (shown : List (ℕ × Shown)) (b : Bool) (x y : World) → Tracks shown x.states → Tracks shown y.states → Tracks shown (if b then x else y).states
-if_tracked shown true x y h k = h
-if_tracked shown false x y h k = k
+  if_tracked : (shown : List (ℕ × Shown)) (b : Bool) (x y : World) → Tracks But shown x.states → Tracks But shown y.states → Tracks But shown (if b then x else y).states
+  if_tracked shown true x y h k = h
+  if_tracked shown false x y h k = k
 
-props_tracked : (shown : List (ℕ × Shown)) (n : ℕ) (props : List Given) (w : World) → Tracks shown w.states → Tracks shown (props_set n props w).states
-props_tracked shown n [] w h = h
-props_tracked shown n (g ∷ props) w h = props_tracked shown n props (prop_set n g w) (if_tracked shown (stays w n g) w _ h ((tracks_stay shown).assigned w.states n g.cell g.value h))
+  props_tracked : (shown : List (ℕ × Shown)) (n : ℕ) (props : List Given) (w : World) → Tracks But shown w.states → Tracks But shown (props_set n props w).states
+  props_tracked shown n [] w h = h
+  props_tracked shown n (g ∷ props) w h = props_tracked shown n props (prop_set n g w) (if_tracked shown (stays w n g) w _ h ((tracks_stay shown).assigned w.states n g.cell g.value h))
 
-set_tracked : (shown : List (ℕ × Shown)) (n : ℕ) (props : List Given) (w : World) → Tracks shown w.states → Tracks shown (set n props w).states
-set_tracked shown n props w h =
-    tracks-setting shown (props_set n props (setting (Some n) w)).states None (props_tracked shown n props (setting (Some n) w) (tracks-setting shown w.states (Some n) h))
+  set_tracked : (shown : List (ℕ × Shown)) (n : ℕ) (props : List Given) (w : World) → Tracks But shown w.states → Tracks But shown (set n props w).states
+  set_tracked shown n props w h =
+      tracks-setting shown (props_set n props (setting (Some n) w)).states None (props_tracked shown n props (setting (Some n) w) (tracks-setting shown w.states (Some n) h))
 
-to_tracked : (shown : List (ℕ × Shown)) (c : Component) (cell : Option ℕ) (n : ℕ) (view : View) (w : World) → Tracks shown w.states → Tracks shown (lent_to (Some (record c { view = cell })) n view w).states
-to_tracked shown c None n view w h = h
-to_tracked shown c (Some cell) n view w h = tracks-viewed shown w.states n cell view h
+  to_tracked : (shown : List (ℕ × Shown)) (c : Component) (cell : Option ℕ) (n : ℕ) (view : View) (w : World) → Tracks But shown w.states → Tracks But shown (lent_to (Some (record c { view = cell })) n view w).states
+  to_tracked shown c None n view w h = h
+  to_tracked shown c (Some cell) n view w h = tracks-viewed shown w.states n cell view h
 
-lent_tracked : (shown : List (ℕ × Shown)) (c : Option Component) (n : ℕ) (view : View) (w : World) → Tracks shown w.states → Tracks shown (lent_to c n view w).states
-lent_tracked shown None n view w h = h
-lent_tracked shown (Some c) n view w h = to_tracked shown c c.view n view w h
+  lent_tracked : (shown : List (ℕ × Shown)) (c : Option Component) (n : ℕ) (view : View) (w : World) → Tracks But shown w.states → Tracks But shown (lent_to c n view w).states
+  lent_tracked shown None n view w h = h
+  lent_tracked shown (Some c) n view w h = to_tracked shown c c.view n view w h
 
-lent_if_tracked : (shown : List (ℕ × Shown)) (p : Program) (n : ℕ) (o : Option View) (w : World) → Tracks shown w.states → Tracks shown (lent_if p n o w).states
-lent_if_tracked shown p n None w h = h
-lent_if_tracked shown p n (Some view) w h = lent_tracked shown (component_of p w n) n view w h
+  lent_if_tracked : (shown : List (ℕ × Shown)) (p : Program) (n : ℕ) (o : Option View) (w : World) → Tracks But shown w.states → Tracks But shown (lent_if p n o w).states
+  lent_if_tracked shown p n None w h = h
+  lent_if_tracked shown p n (Some view) w h = lent_tracked shown (component_of p w n) n view w h
 
 -- ---- snapshots and patches
 
@@ -139,7 +145,7 @@ pub record Snapped (n : ℕ) (m : Page) : Type 0 where
   pub records : RecordsBut n (snapshots m.world.states) m.showing.shown
   pub now : (i : Instance) → live m.world.states n ≡ Some i → i.cells.seen ≡ Some i.cells.now
 
-snapped_but : (n : ℕ) (s : States) (shown : List (ℕ × Shown)) (o : Option Instance) → live s n ≡ o → Records (snapshots s) shown → RecordsBut n (snapshots (snapped s n)) shown
+snapped_but : (n : ℕ) (s : States) (shown : List (ℕ × Shown)) (o : Option Instance) → live s n ≡ o → Records (Only n) (snapshots s) shown → RecordsBut n (snapshots (snapped s n)) shown
 snapped_but n s shown None e h = subst (λ lives. RecordsBut n (map (option_map snapshot_of) lives) shown) (sym (altered-none waiting.shown s.lives n e)) (records-but (snapshots s) n shown h)
 snapped_but n s shown (Some i) e h =
     subst (λ lives. RecordsBut n (map (option_map snapshot_of) lives) shown) (sym (altered-some waiting.shown s.lives n i e))
@@ -149,7 +155,7 @@ snapped_now : (n : ℕ) (s : States) (o : Option Instance) → live s n ≡ o �
 snapped_now n s None e i there = absurd (none-some i (sym (at-altered_none waiting.shown s.lives n e) ∙ there))
 snapped_now n s (Some j) e i there = subst (λ k. k.cells.seen ≡ Some k.cells.now) (same_Some (waiting.shown j) i (sym (at-altered_same waiting.shown s.lives n j e) ∙ there)) refl
 
-snapshot_taken : (n : ℕ) → Brings Tracked (Snapped n) (in_world (snapshot n))
+snapshot_taken : (n : ℕ) → Brings (TrackedBut (Only n)) (Snapped n) (in_world (snapshot n))
 snapshot_taken n = record {
   held = λ m h. record {
     sound = sound-snapped m.world.states n h.sound;
@@ -158,11 +164,11 @@ snapshot_taken n = record {
   };
 }
 
-kept_tracked : (shown : List (ℕ × Shown)) (s : Showing) (k : Kept) (o : Option ℕ) (w : World) → Tracks shown w.states → Tracks shown (tag_shown o k w).states
+kept_tracked : (shown : List (ℕ × Shown)) (s : Showing) (k : Kept) (o : Option ℕ) (w : World) → Tracks nobody shown w.states → Tracks nobody shown (tag_shown o k w).states
 kept_tracked shown s k None w h = h
 kept_tracked shown s k (Some n) w h = (tracks_stay shown).left w.states (λ u. record u { locals = k.locals }) n h
 
-all_kept_tracked : (shown : List (ℕ × Shown)) (s : Showing) (kept : List Kept) (w : World) → Tracks shown w.states → Tracks shown (tags_kept s kept w).states
+all_kept_tracked : (shown : List (ℕ × Shown)) (s : Showing) (kept : List Kept) (w : World) → Tracks nobody shown w.states → Tracks nobody shown (tags_kept s kept w).states
 all_kept_tracked shown s [] w h = h
 all_kept_tracked shown s (k ∷ kept) w h = all_kept_tracked shown s kept (tag_kept s k w) (kept_tracked shown s k (child_at s k.place) w h)
 
@@ -170,7 +176,7 @@ all_kept_tracked shown s (k ∷ kept) w h = all_kept_tracked shown s kept (tag_k
 pub saw_at : (s : States) (n : ℕ) (o : Option Instance) → live s n ≡ o → at (snapshots s) n ≡ option_map snapshot_of o
 saw_at s n o e = get_or-map (option_map snapshot_of) s.lives n None ∙ ap (option_map snapshot_of) e
 
-shown_tracked : (m : Page) (n : ℕ) (i : Instance) (x : Shown) → live m.world.states n ≡ Some i → x.view.own.cells ≡ present i.cells.now → Snapped n m → Tracks (shown_on m.showing n x.view x.parts).shown m.world.states
+shown_tracked : (m : Page) (n : ℕ) (i : Instance) (x : Shown) → live m.world.states n ≡ Some i → x.view.own.cells ≡ present i.cells.now → Snapped n m → Tracks nobody (shown_on m.showing n x.view x.parts).shown m.world.states
 shown_tracked m n i x there is h = record {
   sound = h.sound;
   records = records-shown (snapshots m.world.states) n m.showing.shown (snapshot_of i) x (at_within (snapshots m.world.states) n (snapshot_of i) (saw_at m.world.states n (Some i) there)) (saw_at m.world.states n (Some i) there)
@@ -190,7 +196,7 @@ patched_brings : (p : Program) (n : ℕ) → Brings (Snapped n) Tracked (patched
 unfolding patched_now
 patched_brings p n = record { held = λ m h. patched_over p n m (live m.world.states n) refl h }
 
-readied_brings : (p : Program) (n : ℕ) (all : Bool) → Brings Tracked (Snapped n) (readied p n all)
+readied_brings : (p : Program) (n : ℕ) (all : Bool) → Brings (TrackedBut (Only n)) (Snapped n) (readied p n all)
 readied_brings p n all =
     brings_then (scripted_tracked (λ shown. reactive_leaves (tracks_stay shown) p n all)) (λ _. brings_then (scripted_tracked (λ shown. all_back_leave (tracks_stay shown) p n Before)) (λ _. brings_then (snapshot_taken n) (λ _. nothing_brings)))
 
@@ -203,7 +209,7 @@ shown_brings p n k = brings_then (patched_brings p n) k
 gone_tracked : (n : ℕ) (m : Page) → Tracked m → Tracked (gone n m)
 gone_tracked n m h = record {
   sound = sound-removed m.world.states n h.sound;
-  records = subst (λ saw. Records saw (gone n m).showing.shown) (sym (map-set (option_map snapshot_of) m.world.states.lives n None)) (records-gone (snapshots m.world.states) n m.showing.shown h.records);
+  records = subst (λ saw. Records nobody saw (gone n m).showing.shown) (sym (map-set (option_map snapshot_of) m.world.states.lives n None)) (records-gone (snapshots m.world.states) n m.showing.shown h.records);
 }
 
 taken_brings : {task : ℕ → Task} (place : ℕ) → ((n : ℕ) → Brings Tracked Tracked (task n)) → Brings Tracked Tracked (taken task place)
@@ -233,19 +239,44 @@ work_tracked false m h = tt
 work_brings : Brings Tracked Tracked work
 work_brings = record { held = λ m h. work_tracked (nat_le 1 m.counters.work) m h }
 
-born_tracked : (site : Site) (c : Component) (b : Bool) (m : Page) → Tracked m → Afterwards Tracked {A = Option ℕ} (if b then too_deep site.span m else Done (Some (next m.world)) (record m { world = born_at site c m.world }))
+-- all are shown but the one that was made just now, if one was
+abbrev Made : Option ℕ → Page → Type 0
+Made None = Tracked
+Made (Some n) = TrackedBut (Only n)
+
+-- what is so of a page by what a step gives
+abbrev AfterMade : Outcome (Option ℕ) → Type 0
+AfterMade (Done o m) = Made o m
+AfterMade (Halted r m) = Unit {0}
+
+record Makes (step : Step (Option ℕ)) : Type 0 where
+  held : (m : Page) → Tracked m → AfterMade (step m)
+
+born_tracked : (site : Site) (c : Component) (b : Bool) (m : Page) → Tracked m → AfterMade (if b then too_deep site.span m else Done (Some (next m.world)) (record m { world = born_at site c m.world }))
 born_tracked site c true m h = tt
 born_tracked site c false m h = tracks-added m.showing.shown m.world.states _ (new-born (place_below m.world.states site.file site.parent site.standing) (cell_count c) c.constants) h
 
-made_of_brings : (site : Site) (o : Option Component) → Brings Tracked Tracked (made_of site o)
-made_of_brings site None = record { held = λ m h. h }
-made_of_brings site (Some c) = brings_then work_brings (λ _. record { held = λ m h. born_tracked site c (is_too_deep site m.world) m h })
+work_made : (site : Site) (c : Component) (b : Bool) (m : Page) → Tracked m → AfterMade (and_then (work_if b m) (λ _. born_here site c))
+work_made site c true m h = born_tracked site c (is_too_deep site m.world) _ h
+work_made site c false m h = tt
 
-made_brings : (p : Program) (site : Site) → Brings Tracked Tracked (made p site)
-made_brings p site = made_of_brings site (component_at p site.file)
+made_of_makes : (site : Site) (o : Option Component) → Makes (made_of site o)
+made_of_makes site None = record { held = λ m h. h }
+made_of_makes site (Some c) = record { held = λ m h. work_made site c (nat_le 1 m.counters.work) m h }
+
+made_makes : (p : Program) (site : Site) → Makes (made p site)
+made_makes p site = made_of_makes site (component_at p site.file)
+
+-- what is done with one that is made
+made_then : (step : Step (Option ℕ)) (task : ℕ → Task) → Makes step → ((n : ℕ) → Brings (TrackedBut (Only n)) Tracked (task n)) → Brings Tracked Tracked (λ m. and_then (step m) (child_task task))
+made_then step task made k = record { held = λ m h. over (step m) (made.held m h) } where
+  over : (o : Outcome (Option ℕ)) → AfterMade o → Afterwards Tracked (and_then o (child_task task))
+  over (Done None m) h = h
+  over (Done (Some n) m) h = (k n).held m h
+  over (Halted r m) h = tt
 
 -- its callbacks wait, and so on
-started_brings : (p : Program) {run : List Effect → Task} (n : ℕ) (props : List Given) (view : Option View) → ((es : List Effect) → Brings Tracked Tracked (run es)) → Brings Tracked Tracked (started p run n props view)
+started_brings : (p : Program) {run : List Effect → Task} (n : ℕ) (props : List Given) (view : Option View) → ((es : List Effect) → Brings Tracked Tracked (run es)) → Brings (TrackedBut (Only n)) Tracked (started p run n props view)
 started_brings p n props view k =
     brings_then (brings_then (scripted_tracked (λ shown. top_leaves (tracks_stay shown) p n (passed props))) (λ _. brings_then (world_brings (lent_if p n view) (λ shown w h. lent_if_tracked shown p n view w h)) (λ _. nothing_brings))) (λ _.
     brings_then (readied_brings p n true) (λ _.
@@ -257,7 +288,7 @@ started_brings p n props view k =
 abbrev AllBring : (ℕ → List Effect → Task) → Type 0
 AllBring run = (n : ℕ) (es : List Effect) → Brings Tracked Tracked (run n es)
 
-grown_brings : (p : Program) (run : ℕ → List Effect → Task) (place : ℕ) (props : List Given) (view : View) (t : Tag) (n : ℕ) → AllBring run → Brings Tracked Tracked (grown p run place props view t n)
+grown_brings : (p : Program) (run : ℕ → List Effect → Task) (place : ℕ) (props : List Given) (view : View) (t : Tag) (n : ℕ) → AllBring run → Brings (TrackedBut (Only n)) Tracked (grown p run place props view t n)
 grown_brings p run place props view t n k =
     brings_then (changed_brings (placed place view n) (λ m h. (tracks_stay m.showing.shown).left m.world.states (λ s. record s { locals = view.own.locals }) n h)) (λ _.
     brings_then (started_brings p n props (Some view) (k n)) (λ _.
@@ -265,7 +296,7 @@ grown_brings p run place props view t n k =
     brings_then (changed_brings {Q = Tracked} {R = Tracked} (binds p t n view.own.inst) (λ m h. h)) (λ _. nothing_brings))))
 
 created_brings : (p : Program) (run : ℕ → List Effect → Task) (parent place k : ℕ) (props : List Given) (view : View) (t : Tag) → AllBring run → Brings Tracked Tracked (created p run parent place k props view t)
-created_brings p run parent place k props view t h = brings_then (made_brings p (site_of parent k view t)) (λ o. child_brings o (λ n. grown_brings p run place props view t n h))
+created_brings p run parent place k props view t h = made_then (made p (site_of parent k view t)) (grown p run place props view t) (made_makes p (site_of parent k view t)) (λ n. grown_brings p run place props view t n h)
 
 abbrev Creates : Type 0
 Creates = (parent place k : ℕ) → List Given → View → Tag → Task
@@ -297,17 +328,21 @@ effects_bring room p n es = each_brings es (λ e. effect_brings p (created_in ro
 pub mounted_brings : (p : Program) → Brings Tracked Tracked (mounted p)
 unfolding mounted
 mounted_brings p =
-    brings_then (scripted_tracked (λ shown. modules_leave (tracks_stay shown) p)) (λ _. brings_then (made_brings p root_site) (λ o. child_brings o (λ n. started_brings p n [] None (effects_bring DEPTH_LIMIT p n))))
+    brings_then (scripted_tracked (λ shown. modules_leave (tracks_stay shown) p)) (λ _.
+    made_then (made p root_site) (λ n. started p (effects DEPTH_LIMIT p n) n [] None) (made_makes p root_site) (λ n. started_brings p n [] None (effects_bring DEPTH_LIMIT p n)))
 
 -- ---- rounds
+
+weakened : (n : ℕ) {R : Page → Type 0} {t : Task} → Brings (TrackedBut (Only n)) R t → Brings Tracked R t
+weakened n k = record { held = λ m h. k.held m (record { sound = h.sound; records = records-weaker nobody (Only n) (snapshots m.world.states) m.showing.shown (λ j none. absurd none) h.records }) }
 
 updated_brings : (p : Program) (n : ℕ) → Brings Tracked Tracked (updated p n)
 unfolding updated
 updated_brings p n =
-    brings_then work_brings (λ _. brings_then (readied_brings p n false) (λ _. brings_then (shown_brings p n (effects_bring DEPTH_LIMIT p n)) (λ _.
+    brings_then work_brings (λ _. brings_then (weakened n (readied_brings p n false)) (λ _. brings_then (shown_brings p n (effects_bring DEPTH_LIMIT p n)) (λ _.
     brings_then (changed_brings {Q = Tracked} {R = Tracked} (after_waits n) (λ m h. h)) (λ _. nothing_brings))))
 
-bound_tracked : (shown : List (ℕ × Shown)) (bindings : List Binding) (s : States) → Tracks shown s → Tracks shown (bound_last_first bindings s)
+bound_tracked : (shown : List (ℕ × Shown)) (bindings : List Binding) (s : States) → Tracks nobody shown s → Tracks nobody shown (bound_last_first bindings s)
 bound_tracked shown [] s h = h
 bound_tracked shown (b ∷ bindings) s h = tracks-bound shown (bound_last_first bindings s) b.child b.bound (bound_tracked shown bindings s h)
 

@@ -12,13 +12,16 @@ use Rattle.sv_flush.specs.Creation.{mounted}
 use Rattle.sv_flush.specs.Flush.{flushed}
 use Rattle.sv_flush.specs.Meets.{Meets}
 use Rattle.sv_flush.specs.Outcome.{Done}
-use Rattle.sv_flush.specs.Records.{IsRecorded, RecordsSeen, ShowsPresent}
+use Rattle.sv_flush.specs.Records.{IsRecorded, IsPresent, RecordsSeen, ShowsPresent}
 use Rattle.sv_flush.specs.Settled.{IsSettled}
 use Rattle.sv_flush.specs.declared.page.Page.{Page}
-use Rattle.sv_frame.specs.Snapshots.{snapshot_of}
+use Rattle.sv_frame.specs.Snapshots.{snapshot_of, snapshots}
 use Rattle.sv_instance.specs.Cells.{present, cell_at, count_of, has_moved, is_dirty_since}
 use Rattle.sv_instance.specs.declared.instance.Instance.{Instance}
 use Rattle.sv_parts.specs.declared.refusal.PatchError.{PatchError}
+use Rattle.sv_numbered.specs.Numbered.{at}
+use Rattle.sv_shapes.specs.Showing.{shown_of}
+use Rattle.sv_shapes.specs.declared.shown.Shown.{Shown}
 use Rattle.sv_states.specs.Sound.{IsSound, IsSeen, has_changed}
 use Rattle.sv_states.specs.States.{States, live}
 use Rattle.sv_states.specs.Waiting.{is_waiting, times}
@@ -49,17 +52,26 @@ unchanged i old seen is same whole = ext_get_or None old i.cells.now whole (λ c
 
 -- what is recorded of such an instance is its present cells
 recorded_present : (i : Instance) (cells : List Cell) (o : Option (List (Option Cell))) → i.cells.seen ≡ o → IsSeen (Some i) → ((c : ℕ) → has_changed (Some i) c ≡ false)
-    → option_map present o ≡ Some cells → length cells ≡ length i.cells.now → cells ≡ present i.cells.now
+    → option_map present o ≡ Some cells → length cells ≡ length i.cells.now → (cells ≡ present i.cells.now) × (o ≡ Some i.cells.now)
 recorded_present i cells None is seen same recorded whole = absurd (none-some cells recorded)
 recorded_present i cells (Some old) is seen same recorded whole =
     let e : present old ≡ cells = same_Some (present old) cells recorded in
     let l : length old ≡ length i.cells.now = sym (length-map old _) ∙ (ap length e ∙ whole) in
-    sym e ∙ ap present (unchanged i old seen is same l)
+    let now : old ≡ i.cells.now = unchanged i old seen is same l in
+    (sym e ∙ ap present now, ap Some now)
 
 pub presents : (m : Page) → Tracked m → IsSettled m → ShowsPresent m
-presents m h settled n i x there is =
-    let r : IsRecorded (snapshot_of i) x = h.records.seen n (snapshot_of i) x (saw_at m.world.states n (Some i) there) is in
-    recorded_present i x.view.own.cells i.cells.seen refl (subst IsSeen there (h.sound.seen n)) (λ c. ap (λ o. has_changed o c) (sym there) ∙ clean m.world.states h.sound settled.queue n c) r.seen r.whole
+presents m h settled n i there = over (shown_of m.showing n) refl
+  where
+    saw : at (snapshots m.world.states) n ≡ Some (snapshot_of i)
+    saw = saw_at m.world.states n (Some i) there
+
+    over : (o : Option Shown) → shown_of m.showing n ≡ o → IsPresent m n i
+    over None is = absurd (true≢false (sym (h.records.whole n (snapshot_of i) (λ none. none) saw) ∙ ap is_some is))
+    over (Some x) is =
+        let r : IsRecorded (snapshot_of i) x = h.records.seen n (snapshot_of i) x saw is in
+        let now = recorded_present i x.view.own.cells i.cells.seen refl (subst IsSeen there (h.sound.seen n)) (λ c. ap (λ o. has_changed o c) (sym there) ∙ clean m.world.states h.sound settled.queue n c) r.seen r.whole in
+        record { last = x; shown = is; cells = now.0; seen = now.1 }
 
 -- ---- for those that call
 

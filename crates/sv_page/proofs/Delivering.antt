@@ -64,7 +64,7 @@ module _ {P : States → Type 0} (stay : Stays P) where
 
   heard_on_leaves : (o : Option View) (d : Delivery) (at : Span) (part : Part) → Leaves P (heard_on o d at part)
   heard_on_leaves None d at part = ends_leaves tt
-  heard_on_leaves (Some v) d at part = heard_result_leaves d at part.span (part_value d.program v part.code)
+  heard_on_leaves (Some v) d at part = heard_result_leaves d at part.span (part_value d.program v part)
 
   heard_leaves : (d : Delivery) (at : Span) (o : Option Part) (l : Listener) → Leaves P (heard d at o l)
   heard_leaves d at None l = object_leaves d at (λ e. teller_keeps stay d.program (calls d.program) (calls_keep stay d.program) l.inst d.event.name e)

@@ -1,10 +1,10 @@
 -- Each turn that isn't refused leaves a page that is current.
-use Rattle.std.proofs.Common.{◌≡◌, ℕ, Bool, true, false, List, [], ◌∷◌, Option, Some, None, refl, if◌then◌else◌}
+use Rattle.std.proofs.Common.{◌≡◌, ℕ, Bool, true, false, List, [], ◌∷◌, Option, Some, None, Result, Ok, Err, OnOk, refl, sym, ap, subst, ◌∙◌, if◌then◌else◌}
 use Rattle.std.specs.List.{All}
 use Rattle.std.proofs.lemmas.List.Elements.{All-nil, All-cons}
 use Rattle.sv_code.specs.declared.program.Program.{Program}
 use Rattle.sv_document.specs.Element.{Element}
-use Rattle.sv_document.specs.Target.{target}
+use Rattle.sv_document.specs.declared.tree.Node.{Node}
 use Rattle.sv_events.specs.declared.event.Event.{Event}
 use Rattle.sv_flush.proofs.Blank.{blank_tracked}
 use Rattle.sv_flush.proofs.Playing.{Tracked}
@@ -15,11 +15,14 @@ use Rattle.sv_flush.proofs.Settling.{settled-flushed}
 use Rattle.sv_flush.proofs.Tracking.{Tracks, tracks_stay}
 use Rattle.sv_flush.specs.Creation.{mounted}
 use Rattle.sv_flush.specs.Flush.{flushed}
+use Rattle.sv_flush.specs.Meets.{Meets}
 use Rattle.sv_flush.specs.Outcome.{Outcome, Done, Halted, and_then, ended}
 use Rattle.sv_flush.specs.Page.{blank, begun}
+use Rattle.sv_flush.specs.Records.{nobody}
 use Rattle.sv_flush.specs.declared.page.Page.{Page}
 use Rattle.sv_frame.proofs.Outcomes.{Left}
 use Rattle.sv_frame.specs.Snapshots.{snapshots}
+use Rattle.sv_input.specs.Named.{named}
 use Rattle.sv_input.specs.Typed.{taken, is_bound, laid, laid_down}
 use Rattle.sv_input.specs.Walk.{walked, delivery, dispatched}
 use Rattle.sv_meaning.specs.Outcome.{Ending, Ends, Fails, then_do}
@@ -27,8 +30,10 @@ use Rattle.sv_page.proofs.Delivering.{walked_leaves}
 use Rattle.sv_page.specs.Current.{IsCurrent, LeavesCurrent}
 use Rattle.sv_page.specs.Run.{followed, turns, run}
 use Rattle.sv_page.specs.Turns.{nodes_of, settled, first_turn, next_turn}
+use Rattle.sv_parts.specs.declared.refusal.PatchError.{PatchError}
 use Rattle.sv_shapes.specs.Showing.{Showing, shown_of, laid_in, laid_on}
 use Rattle.sv_shapes.specs.declared.shown.Shown.{Shown}
+use Rattle.sv_states.specs.Sound.{IsSound}
 use Rattle.sv_states.specs.States.{States}
 use Rattle.sv_tokens.specs.declared.element.Typed.{Typed}
 
@@ -41,15 +46,15 @@ Knows o = Afterwards Known o
 
 -- ---- what users leave
 
-in_tracked : (s : Showing) (n mark : ℕ) (left : Typed) (o : Option Shown) (states : States) → shown_of s n ≡ o → Tracks s.shown states → Tracks (laid_in s n mark left o).shown states
+in_tracked : (s : Showing) (n mark : ℕ) (left : Typed) (o : Option Shown) (states : States) → shown_of s n ≡ o → Tracks nobody s.shown states → Tracks nobody (laid_in s n mark left o).shown states
 in_tracked s n mark left None states is h = h
-in_tracked s n mark left (Some x) states is h = record { sound = h.sound; records = records-laid (snapshots states) n s.shown x _ is refl h.records }
+in_tracked s n mark left (Some x) states is h = record { sound = h.sound; records = records-laid nobody (snapshots states) n s.shown x _ is refl h.records }
 
-if_laid : (b : Bool) (s t : Showing) (states : States) → Tracks s.shown states → Tracks t.shown states → Tracks (if b then s else t).shown states
+if_laid : (b : Bool) (s t : Showing) (states : States) → Tracks nobody s.shown states → Tracks nobody t.shown states → Tracks nobody (if b then s else t).shown states
 if_laid true s t states h k = h
 if_laid false s t states h k = k
 
-laid_tracked : (o : Option Typed) (e : Element) (s : Showing) (states : States) → Tracks s.shown states → Tracks (laid o e s).shown states
+laid_tracked : (o : Option Typed) (e : Element) (s : Showing) (states : States) → Tracks nobody s.shown states → Tracks nobody (laid o e s).shown states
 laid_tracked None e s states h = h
 laid_tracked (Some left) e s states h = if_laid (is_bound left e) s (laid_on s e.inst e.mark left) states h (in_tracked s e.inst e.mark left (shown_of s e.inst) states refl h)
 
@@ -68,7 +73,7 @@ unfolding first_turn
 first_known p = mounted_known p (begun blank) (mounted p (begun blank)) refl blank_tracked
 
 -- behind what an event did where there was an element for it
-walked_known : (p : Program) (m : Page) (e : Ending (Unit {0})) → Left (Tracks m.showing.shown) e → Knows (and_then (ended m (then_do e (λ u. Ends true))) (settled p))
+walked_known : (p : Program) (m : Page) (e : Ending (Unit {0})) → Left (Tracks nobody m.showing.shown) e → Knows (and_then (ended m (then_do e (λ u. Ends true))) (settled p))
 walked_known p m (Ends u w) h = flushed_known p (record m { world = w }) (flushed p (record m { world = w })) refl h
 walked_known p m (Fails k s w) h = tt
 
@@ -79,9 +84,9 @@ delivered_known p event (Some (e ∷ outer)) m h =
     let s : Showing = laid (taken e event) e m.showing in
     walked_known p (record m { showing = s }) (walked (delivery p event e) outer m.world) ((walked_leaves (tracks_stay s.shown) (delivery p event e) outer).held m.world (laid_tracked (taken e event) e m.showing m.world.states h.0))
 
-next_known : (p : Program) (event : Event) (m : Page) → Known m → Knows (next_turn p event (nodes_of p m) m)
+next_known : (p : Program) (event : Event) (nodes : List Node) (m : Page) → Known m → Knows (next_turn p event nodes m)
 unfolding next_turn
-next_known p event m h = delivered_known p event (target event.id (nodes_of p m)) (begun m) (h.0, record { settled = record { queue = h.1.settled.queue; bindings = h.1.settled.bindings; render = h.1.settled.render }; records = h.1.records; present = h.1.present })
+next_known p event nodes m h = delivered_known p event (named event.target nodes) (begun m) (h.0, record { settled = record { queue = h.1.settled.queue; bindings = h.1.settled.bindings; render = h.1.settled.render }; records = h.1.records; present = λ n i there. let k = h.1.present n i there in record { last = k.last; shown = k.shown; cells = k.cells; seen = k.seen } })
 
 -- ---- runs
 
@@ -91,8 +96,23 @@ followed_current (Halted r m) more h k = All-cons LeavesCurrent (Halted r m) [] 
 
 turns_current : (p : Program) (events : List Event) (m : Page) → Known m → All LeavesCurrent (turns p events m)
 turns_current p [] m h = All-nil LeavesCurrent
-turns_current p (event ∷ events) m h = followed_current (next_turn p event (nodes_of p m) m) (turns p events) (next_known p event m h) (turns_current p events)
+turns_current p (event ∷ events) m h = followed_current (next_turn p event (nodes_of p m) m) (turns p events) (next_known p event (nodes_of p m) m h) (turns_current p events)
 
 pub run_current : (p : Program) (events : List Event) → All LeavesCurrent (run p events)
 unfolding run
 run_current p events = followed_current (first_turn p blank) (turns p events) (first_known p) (turns_current p events)
+
+-- ---- what code answers
+
+module _ (p : Program) (r : Result Bool PatchError) (m n : Page) where
+  pub first_current : Meets r n (first_turn p m) → m ≡ blank → OnOk r (IsCurrent n)
+  first_current = by r where
+    by : (r : Result Bool PatchError) → Meets r n (first_turn p m) → m ≡ blank → OnOk r (IsCurrent n)
+    by (Ok target) h is = (subst Knows (ap (first_turn p) (sym is) ∙ h.meets) (first_known p)).1
+    by (Err e) h is = tt
+
+  pub next_current : (event : Event) (nodes : List Node) → IsSound m.world.states → Meets r n (next_turn p event nodes m) → IsCurrent m → OnOk r (IsCurrent n)
+  next_current event nodes = by r where
+    by : (r : Result Bool PatchError) → IsSound m.world.states → Meets r n (next_turn p event nodes m) → IsCurrent m → OnOk r (IsCurrent n)
+    by (Ok target) sound h k = (subst Knows h.meets (next_known p event nodes m (record { sound = sound; records = k.records }, k))).1
+    by (Err e) sound h k = tt

@@ -5,7 +5,7 @@ use Rattle.sv_document.specs.Numbers.{Numbers}
 use Rattle.sv_events.specs.declared.event.Event.{Event}
 use Rattle.sv_flush.specs.Outcome.{Outcome, Done, Halted}
 use Rattle.sv_flush.specs.declared.page.Page.{Page}
-use Rattle.sv_page.specs.Turns.{next_turn, nodes_of}
+use Rattle.sv_page.specs.Turns.{first_turn, next_turn, nodes_of}
 use Rattle.sv_page.specs.declared.session.Session.{Session}
 use Rattle.sv_page.specs.declared.stage.Stage.{Stage}
 use Rattle.sv_page.specs.declared.stage.Stage.TheVariants.{New, Running, Stopped}
@@ -46,6 +46,15 @@ pub record Keeps (old new : Session) : Type 0 where
 pub record Plays (result : Result Turned TurnError) (old new : Session) (o : Outcome Bool) : Type 0 where
   pub plays : PlaysBody result new o
   pub keeps : Keeps old new
+
+-- the page is mounted where nothing is on it yet
+abbrev pub MountsAt : Stage → Result Turned TurnError → Session → Session → Type 0
+MountsAt New result old new = Plays result old new (first_turn (program_of old) old.page)
+MountsAt Running result old new = (result ≡ Err error.Stopped) × (new ≡ old)
+MountsAt Stopped result old new = (result ≡ Err error.Stopped) × (new ≡ old)
+
+abbrev pub Mounts : Result Turned TurnError → Session → Session → Type 0
+Mounts result old new = MountsAt old.stage result old new
 
 -- a turn is played where the page is running
 abbrev pub TurnsAt : Stage → Result Turned TurnError → Session → Session → Event → Type 0

@@ -3,8 +3,9 @@ ghost use Rattle.std.specs.Prelude.{◌≡◌, IfOk, OnOk, OnErr};
 ghost use Rattle.sv_document.specs.Numbers.{numbered, unnumbered};
 ghost use Rattle.sv_document.specs.Printed.{html};
 ghost use Rattle.sv_flush.specs.Page.{blank};
-ghost use Rattle.sv_page.specs.Plays.{Plays, Turns, IsShown, Keeps, told, program_of, shown_numbers};
-ghost use Rattle.sv_page.specs.Turns as spec;
+ghost use Rattle.sv_page.specs.Current.{IsCurrent};
+ghost use Rattle.sv_page.specs.Plays.{Mounts, Turns, IsShown, Keeps, told, program_of, shown_numbers};
+ghost use Rattle.sv_states.specs.Sound.{IsSound};
 
 use crate::stage::{Stage, TurnError, Turned};
 use crate::turns::{first_turn, next_turn};
@@ -43,19 +44,47 @@ impl<'a> Session<'a> {
         })
     }
 
-    /// Mounts the page: module files run, the root is made with all below it, and a flush follows. After a refusal the session is stopped.
+    /// Mounts the page: module files run, the root is made with all below it, and a flush follows. After a refusal the session is stopped;
+    /// `Stopped` comes exactly where something was on the page already, and nothing is done. Whatever comes, the states are sound; where the
+    /// page was blank and is mounted, it is current.
     pub fn mount(&mut self) -> Result<Turned, TurnError>
-        ensures { Plays result self.old self.new (spec.first_turn (program_of self.old) self.old.page) }
+        ensures mounts { Mounts result self.old self.new }
+        ensures sound { IsSound self.new.page.world.states }
+        ensures current { self.old.page ≡ blank → OnOk result (IsCurrent self.new.page) }
     {
+        let result = self.play_first();
+        self.page.world.states.facts();
+        result
+    }
+
+    fn play_first(&mut self) -> Result<Turned, TurnError>
+        ensures mounts { Mounts result self.old self.new }
+        ensures current { self.old.page ≡ blank → OnOk result (IsCurrent self.new.page) }
+    {
+        if self.stage != Stage::New {
+            return Err(TurnError::Stopped);
+        }
         self.stage = Stage::Stopped;
         let target = first_turn(&self.machine, &mut self.page)?;
         Ok(self.show(target)?)
     }
 
     /// An event comes to the page: what it does, and a flush where there was an element for it. After a refusal the session is stopped;
-    /// `Stopped` comes exactly where the page isn't running, and nothing is done.
+    /// `Stopped` comes exactly where the page isn't running, and nothing is done. Whatever comes, the states are sound; a page that was
+    /// current is so again once the turn has ended.
     pub fn turn(&mut self, event: &Event) -> Result<Turned, TurnError>
-        ensures { Turns result self.old self.new event.now }
+        ensures turns { Turns result self.old self.new event.now }
+        ensures sound { IsSound self.new.page.world.states }
+        ensures current { IsCurrent self.old.page → OnOk result (IsCurrent self.new.page) }
+    {
+        let result = self.play_next(event);
+        self.page.world.states.facts();
+        result
+    }
+
+    fn play_next(&mut self, event: &Event) -> Result<Turned, TurnError>
+        ensures turns { Turns result self.old self.new event.now }
+        ensures current { IsCurrent self.old.page → OnOk result (IsCurrent self.new.page) }
     {
         if self.stage != Stage::Running {
             return Err(TurnError::Stopped);

@@ -1,6 +1,8 @@
 // What turns do to a page.
-ghost use Rattle.std.specs.Prelude.{◌≡◌};
+ghost use Rattle.std.specs.Prelude.{◌≡◌, OnOk};
 ghost use Rattle.sv_flush.specs.Meets.{Meets};
+ghost use Rattle.sv_flush.specs.Page.{blank};
+ghost use Rattle.sv_page.specs.Current.{IsCurrent};
 ghost use Rattle.sv_page.specs.Turns as spec;
 
 use sv_document::Node;
@@ -10,9 +12,16 @@ use sv_input::{Desk, dispatch};
 use sv_meaning::EvalError;
 use sv_parts::{PatchError, Refusal};
 
-/// The first turn: the page is mounted and flushed.
-#[tactic(auto, unfolding(crate::specs::Turns::first_turn))]
+/// The first turn: the page is mounted and flushed. A blank page is current afterwards.
 pub fn first_turn(machine: &Machine<'_>, page: &mut Page) -> Result<bool, PatchError>
+    ensures turn { Meets result page.new (spec.first_turn machine.now.program.now page.old) }
+    ensures current { page.old ≡ blank → OnOk result (IsCurrent page.new) }
+{
+    mount_and_flush(machine, page)
+}
+
+#[tactic(auto, unfolding(crate::specs::Turns::first_turn))]
+fn mount_and_flush(machine: &Machine<'_>, page: &mut Page) -> Result<bool, PatchError>
     ensures { Meets result page.new (spec.first_turn machine.now.program.now page.old) }
 {
     page.begin_turn();
@@ -21,9 +30,23 @@ pub fn first_turn(machine: &Machine<'_>, page: &mut Page) -> Result<bool, PatchE
     Ok(true)
 }
 
-/// The turn of an event: what it does to the page that shows these nodes, and a flush where there was an element for it.
-#[tactic(auto, unfolding(crate::specs::Turns::next_turn))]
+/// The turn of an event: what it does to the page that shows these nodes, and a flush where there was an element for it. A page that was
+/// current is so afterwards.
 pub fn next_turn(
+    machine: &Machine<'_>,
+    page: &mut Page,
+    nodes: &[Node],
+    event: &Event,
+) -> Result<bool, PatchError>
+    ensures turn { Meets result page.new (spec.next_turn machine.now.program.now event.now nodes.now page.old) }
+    ensures current { IsCurrent page.old → OnOk result (IsCurrent page.new) }
+{
+    page.world.states.facts();
+    deliver_and_flush(machine, page, nodes, event)
+}
+
+#[tactic(auto, unfolding(crate::specs::Turns::next_turn))]
+fn deliver_and_flush(
     machine: &Machine<'_>,
     page: &mut Page,
     nodes: &[Node],

@@ -6,6 +6,7 @@ ghost use Rattle.sv_flush.specs.Page.{blank};
 ghost use Rattle.sv_io.specs.Faults.{Rose};
 ghost use Rattle.sv_io.specs.Sink.{with_bytes, AppendsFront};
 ghost use Rattle.sv_page.specs.Plays.{PlaysBody, program_of};
+ghost use Rattle.sv_page.specs.declared.stage.Stage.TheVariants.{New};
 ghost use Rattle.sv_play.specs.Refused.{LinesAscend};
 ghost use Rattle.sv_play.specs.Run as spec;
 ghost use Rattle.sv_play.specs.Session.{shown};
@@ -48,6 +49,7 @@ fn play_turns<K: Sink>(
 ) -> Result<bool, SinkError>
     requires lines { LinesAscend (program_of session.old) }
     requires page { session.old.page ≡ blank }
+    requires stage { session.old.stage ≡ New }
     requires numbers { session.old.numbers ≡ unnumbered }
     ensures status { IfOk result (λ refused. refused ≡ (spec.printed (program_of session.old) printer.now.flags events.now).refused) }
     ensures all { OnOk result (K.written out.new ≡ with_bytes (K.written out.old) (spec.printed (program_of session.old) printer.now.flags events.now).text) }

@@ -4,6 +4,7 @@ ghost use Rattle.sv_flush.specs.Page.{blank};
 ghost use Rattle.sv_io.specs.Faults.{Rose};
 ghost use Rattle.sv_io.specs.Sink.{with_bytes, AppendsFront};
 ghost use Rattle.sv_page.specs.Plays.{program_of};
+ghost use Rattle.sv_page.specs.declared.stage.Stage.TheVariants.{New};
 ghost use Rattle.sv_play.specs.Refused.{LinesAscend};
 ghost use Rattle.sv_play.specs.Summary as spec;
 ghost use Rattle.sv_play.specs.Sums.{SumsTo};
@@ -66,7 +67,8 @@ fn sum_up(alloc: Global, program: &Program, events: &[Event]) -> Result<Sums, Tu
 
 // The same of a session that begins.
 fn sum_turns(session: &mut Session<'_>, events: &[Event]) -> Result<Sums, TurnError>
-    requires { session.old.page ≡ blank }
+    requires page { session.old.page ≡ blank }
+    requires stage { session.old.stage ≡ New }
     ensures { SumsTo result (spec.sums (program_of session.old) events.now) }
 {
     let mut evaluations = match session.mount() {
