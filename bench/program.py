@@ -15,8 +15,8 @@ def build():
 
 
 def example(folder, name):
-    """The text of a file of an example."""
-    with open(os.path.join(TOP, 'examples', folder, name)) as file:
+    """The text of a file of an example, by its folder below `crates`."""
+    with open(os.path.join(TOP, 'crates', folder, name)) as file:
         return file.read()
 
 

@@ -31,7 +31,8 @@ fn told(alloc: Global, status: Status, written: &[u8]) -> Result<String, NoMemor
     Ok(format!(in alloc; "{status:?}: {}", written.as_str())?)
 }
 
-fn list(alloc: Global, words: &str) -> Result<Vec<String>, NoMemory> {
+/// The words of a line.
+pub fn list(alloc: Global, words: &str) -> Result<Vec<String>, NoMemory> {
     let mut list = Vec::new(alloc);
     for word in words.split_whitespace() {
         list.push(String::from_str(alloc, word)?)?;

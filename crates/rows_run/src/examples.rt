@@ -1,0 +1,50 @@
+// The examples: folders with files, the words that they are run with, and what is printed then.
+use crate::runs::list;
+use std::alloc::Global;
+use sv_base::NoMemory;
+use sv_io::{DirShelf, Got, MemShelf, MemSink, Shelf};
+use sv_run::run;
+
+/// What the example of a name prints, where it is run over some of its files: `as expected`, or else what it is.
+pub fn printed(rt: &HostRuntime, name: &str, files: &str) -> Result<String, NoMemory> {
+    let alloc = rt.alloc();
+    let mut folder = DirShelf::new(rt.clone()?);
+    let mut given = Vec::new(alloc);
+    for file in files.split_whitespace() {
+        let bytes = bytes_of(alloc, &mut folder, name, file)?;
+        given.push((String::from_str(alloc, file)?, bytes))?;
+    }
+    let words = words_of(alloc, &mut folder, name)?;
+    let expected = bytes_of(alloc, &mut folder, name, "expected.txt")?;
+    let mut shelf = MemShelf::new(given, Vec::new(alloc));
+    let mut sink = MemSink::new(alloc, usize::MAX, Vec::new(alloc))?;
+    let _status = run(alloc, &words, &mut shelf, &mut sink);
+    compared(alloc, sink.written(), &expected)
+}
+
+fn compared(alloc: Global, written: &[u8], expected: &[u8]) -> Result<String, NoMemory> {
+    if written == expected {
+        return Ok(String::from_str(alloc, "as expected")?);
+    }
+    Ok(String::from_utf8_lossy(alloc, written)?)
+}
+
+// The bytes of a file of an example; none where it can't be read.
+fn bytes_of<S: Shelf>(
+    alloc: Global,
+    folder: &mut S,
+    name: &str,
+    file: &str,
+) -> Result<Vec<u8>, NoMemory> {
+    let path = format!(in alloc; "examples/{name}/{file}")?;
+    match folder.read(alloc, path.as_str(), 1_000_000) {
+        Ok(Got::Bytes(bytes)) => Ok(bytes),
+        _ => Ok(Vec::new(alloc)),
+    }
+}
+
+fn words_of<S: Shelf>(alloc: Global, folder: &mut S, name: &str) -> Result<Vec<String>, NoMemory> {
+    let bytes = bytes_of(alloc, folder, name, "words")?;
+    let line = String::from_utf8_lossy(alloc, &bytes)?;
+    list(alloc, line.as_str())
+}
