@@ -5,8 +5,7 @@ ghost use Rattle.sv_flush.specs.Page.{blank, begun};
 use crate::rounds::Rounds;
 use std::alloc::Global;
 use sv_base::NoMemory;
-use sv_parts::Counters;
-use sv_pure::Tally;
+use sv_parts::{Counters, Tally};
 use sv_shapes::Showing;
 use sv_world::World;
 

@@ -1,4 +1,5 @@
 pub mod Counters
+pub mod Counting
 pub mod State
 pub mod Sides
 pub mod Parts

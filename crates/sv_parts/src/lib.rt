@@ -10,6 +10,7 @@ mod parts;
 mod refusal;
 mod state;
 mod tags;
+mod tally;
 mod values;
 
 pub use counters::{Counters, WORK_LIMIT};
@@ -19,4 +20,5 @@ pub use parts::{evaluate, fault_at, plan_literal, plan_show};
 pub use refusal::{PatchError, Refusal};
 pub use state::{Effect, Given, Kept, State, destroy, number, spend};
 pub use tags::{passed_name, plan_tag, take_passed};
+pub use tally::Tally;
 pub use values::{Before, Valued};

@@ -10,11 +10,11 @@ ghost use Rattle.sv_parts.specs.Parts.{evaluated, text_of_part, text_step, marke
 use crate::here::Here;
 use crate::refusal::{PatchError, Refusal};
 use crate::state::{State, number};
+use crate::tally::eval;
 use sv_base::Text;
 use sv_code::Part;
 use sv_meaning::EvalError;
 use sv_ops::{Fault, FaultKind};
-use sv_pure::eval;
 use sv_shapes::{Held, Shape, mark_of, shown_text};
 use sv_value::{Value, ValueFault, text_of};
 

@@ -4,9 +4,9 @@ ghost use Rattle.sv_parts.specs.State.{Meets, numbered, emitted, remembered, spe
 
 use crate::counters::Counters;
 use crate::refusal::{PatchError, Refusal};
+use crate::tally::Tally;
 use std::alloc::Global;
 use sv_list::Items;
-use sv_pure::Tally;
 use sv_shapes::{Held, Shape, places_of};
 use sv_view::{Locals, View};
 

@@ -12,7 +12,7 @@ use Rattle.sv_parts.specs.declared.refusal.Refusal.{Refusal}
 use Rattle.sv_parts.specs.declared.state.Effect.{Effect}
 use Rattle.sv_parts.specs.declared.state.Kept.{Kept}
 use Rattle.sv_parts.specs.declared.state.State.{State}
-use Rattle.sv_pure.specs.declared.Tally.{Tally}
+use Rattle.sv_parts.specs.declared.tally.Tally.{Tally}
 use Rattle.sv_shapes.specs.Showing.{Showing, shown_of, recorded}
 use Rattle.sv_shapes.specs.declared.shape.Shape.{Shape}
 use Rattle.sv_shapes.specs.declared.shown.Shown.{Shown}

@@ -1,10 +1,8 @@
-//! The values of the expressions of markup, each of which is counted.
-#![tactic(auto)]
-
+// The values of the expressions of markup, each of which is counted.
 ghost use Rattle.std.specs.Prelude.{◌≡◌};
 ghost use Rattle.sv_meaning.specs.Gives.{Evaluates};
 ghost use Rattle.sv_meaning.specs.Parts.{part_value};
-ghost use Rattle.sv_pure.specs.Counting.{Counts};
+ghost use Rattle.sv_parts.specs.Counting.{Counts};
 
 use std::alloc::Global;
 use sv_code::{Part, Program};

@@ -2,7 +2,7 @@
 use Rattle.std.specs.Prelude.{◌≡◌, ℕ, ◌+◌, Result, Ok, Err}
 use Rattle.sv_meaning.specs.declared.errors.EvalError.{EvalError}
 use Rattle.sv_meaning.specs.declared.errors.EvalError.TheVariants.{Fault, NoMemory}
-use Rattle.sv_pure.specs.declared.Tally.{Tally}
+use Rattle.sv_parts.specs.declared.tally.Tally.{Tally}
 use Rattle.sv_value.specs.declared.value.Value.{Value}
 
 -- one more evaluation
