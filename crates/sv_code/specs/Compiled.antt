@@ -13,6 +13,7 @@ use Rattle.sv_code.specs.declared.program.Run.{Run}
 use Rattle.sv_lines.specs.Lines.{ascends}
 use Rattle.sv_code.specs.Numbers.{Number, Counts, Size, OfComponent, OfModule, size_at, is_component, IsThere, of_known, of_stmts, of_frags, of_function, of_tag, of_handler}
 use Rattle.sv_code.specs.Within.{ArePartsWithin}
+use Rattle.sv_code.specs.Content.{AreContentsSeen}
 
 -- ---- what there is
 
@@ -82,7 +83,8 @@ pub record IsModule (files : List ProgramFile) (n : ℕ) : Type 0 where
   pub stands : slice_get files n ≡ Some file
   pub is_module : is_component (size_of file.code) ≡ false
 
--- a compiled program: its files, functions, tags and handlers name what is there, and its parts read nothing but what they look at
+-- a compiled program: its files, functions, tags and handlers name what is there, its parts read nothing but what they look at, and the
+-- content of a component's tag looks at nothing but what the tag does
 pub record IsCompiled (program : Program) : Type 0 where
   pub files : All (IsFile program) program.files
   pub functions : All (λ f. AreInFile program (of_function f)) program.functions
@@ -90,3 +92,4 @@ pub record IsCompiled (program : Program) : Type 0 where
   pub handlers : All (λ h. AreInFile program (of_handler h)) program.handlers
   pub modules : All (IsModule program.files) program.modules
   pub within : ArePartsWithin program
+  pub contents : AreContentsSeen program

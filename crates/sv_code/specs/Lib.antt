@@ -3,3 +3,4 @@ pub mod Compiled
 pub mod Names
 pub mod Parts
 pub mod Within
+pub mod Content

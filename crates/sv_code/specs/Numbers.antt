@@ -1,5 +1,5 @@
 -- The numbers by which code and fragments name functions, tags, handlers, files, cells and constants.
-use Rattle.std.specs.Prelude.{◌≡◌, ℕ, ◌<◌, Bool, true, false, List, [], ◌∷◌, ◌++◌, Option, None, Some, map, option_map, length, slice_get}
+use Rattle.std.specs.Prelude.{ℕ, ◌<◌, Bool, true, false, List, [], ◌∷◌, ◌++◌, Option, None, Some, map, option_map, length, slice_get}
 use Rattle.std.specs.Option.{option_to_list, option_map_or}
 use Rattle.sv_code.specs.declared.code.Code.{Code, Code-F, fold-Code}
 use Rattle.sv_code.specs.declared.code.CodeField.{CodeField, CodeField-F, fold-CodeField}

@@ -47,7 +47,7 @@ use Rattle.sv_compile.specs.Modules.{is_module_at, modules_in, AreModules}
 use Rattle.sv_compile.specs.TopLevel.{tops, cell_of}
 use Rattle.sv_compile.proofs.TagFiles.{tags_are_files}
 use Rattle.sv_compile.proofs.Reacting.{runs_are}
-use Rattle.sv_compile.proofs.Within.{parts_within}
+use Rattle.sv_compile.proofs.Within.{parts_within, contents_seen}
 use Rattle.sv_compile.proofs.Standing.{tree_size, sizes_told, sizes_count, GivenStands, givens_stand, tops_stand, name_cell, view_stands, props_stand, StoreStands, stores_stand}
 
 -- ---- how much the code of files has
@@ -290,5 +290,6 @@ program_is_compiled bundle told modules checked lines order =
       tags = all_mono (λ t. AreSomewhere alone (of_tag t)) (λ t. AreInFile whole (of_tag t)) (λ t h. record { file = h.file; there = h.there }) tables.tags made.sound.tags;
       handlers = all_mono (λ x. AreSomewhere alone (of_handler x)) (λ x. AreInFile whole (of_handler x)) (λ x h. record { file = h.file; there = h.there }) tables.handlers made.sound.handlers;
       modules = subst (All (IsModule code.0)) (sym order.are) (modules_are bundle told first_tables order.visited checked.size);
-      within = parts_within bundle told modules;
+      within = parts_within bundle told modules checked;
+      contents = contents_seen bundle told modules checked;
     }

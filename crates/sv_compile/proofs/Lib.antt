@@ -7,6 +7,7 @@ pub mod Reacting
 pub mod TagFiles
 pub mod Standing
 pub mod Topmost
+pub mod Views
 pub mod Within
 pub mod Compiled
 pub mod Wholes

@@ -22,7 +22,7 @@ numbers_below n (cell ∷ cells) names =
     (if_below (has cell names) n (n + suc (length cells)) (omega arith))
     (all_mono (λ k. k < suc n + length cells) (λ k. k < n + suc (length cells)) (λ k h. omega (arith, h)) (numbers_from (suc n) cells names) (numbers_below (suc n) cells names))
 
-among_below : (n count : ℕ) (numbers : List ℕ) → All (λ k. k < n + count) (among_from n count numbers)
+pub among_below : (n count : ℕ) (numbers : List ℕ) → All (λ k. k < n + count) (among_from n count numbers)
 among_below n zero numbers = All-nil (λ k. k < n + zero)
 among_below n (suc count) numbers =
     All-append (λ k. k < n + suc count) (number_if (list_any (nat_eq n) numbers) n) (among_from (suc n) count numbers)

@@ -7,6 +7,9 @@ pub mod Reading
 pub mod Whole
 pub mod Scripts
 pub mod Looking
+pub mod Seeing
 pub mod Parts
 pub mod Keeping
+pub mod Contents
+pub mod Telling
 pub mod Markup

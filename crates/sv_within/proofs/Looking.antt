@@ -23,7 +23,7 @@ number_has start (c ∷ cells) ns (suc k) m n e at h =
     list_any-append (nat_eq m) (number_if (has c ns) start) (numbers_from (suc start) cells ns)
     ∙ or_second (list_any (nat_eq m) (number_if (has c ns) start)) (list_any (nat_eq m) (numbers_from (suc start) cells ns)) (number_has (suc start) cells ns k m n (omega (arith, e)) at h)
 
-has_kept : (locals names : List Ref) (n : Ref) → has n locals ≡ false → has n names ≡ true → has n (filter (λ m. not (has m locals)) names) ≡ true
+pub has_kept : (locals names : List Ref) (n : Ref) → has n locals ≡ false → has n names ≡ true → has n (filter (λ m. not (has m locals)) names) ≡ true
 has_kept locals [] n o h = h
 has_kept locals (m ∷ names) n o h = or_cases (same_ref n m) (has n names) h
     (λ s. let same : n ≡ m = same_ref-true n m s in
@@ -40,6 +40,13 @@ cell_has cells locals names n k at h o = number_has 0 cells (filter (λ m. not (
 
 abbrev pub tests : Ref → Name → Bool
 tests n y = nat_eq (name_of n).0 y.0
+
+-- a name among some is one of what they are called
+pub named_has : (names : List Ref) (n : Ref) → has n names ≡ true → list_any (tests n) (map name_of names) ≡ true
+named_has [] n h = absurd (true≢false (sym h))
+named_has (m ∷ names) n h = or_cases (same_ref n m) (has n names) h
+    (λ s. or_first (tests n (name_of m)) (list_any (tests n) (map name_of names)) (eq-eqb (name_of n).0 (name_of m).0 (ap (λ z. (name_of z).0) (same_ref-true n m s))))
+    (λ r. or_second (tests n (name_of m)) (list_any (tests n) (map name_of names)) (named_has names n r))
 
 -- a name that is kept is among the names
 pub kept_has : (keeps : Ref → Bool) (names : List Ref) (n : Ref) → has n names ≡ true → keeps n ≡ true → list_any (tests n) (map name_of (filter keeps names)) ≡ true

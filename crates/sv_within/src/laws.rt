@@ -7,7 +7,9 @@ pub fn part_is_within()
     ensures { ArePartsMadeWithin }
 {}
 
-/// Each part of the markup of a component reads nothing but what it looks at, those of its component tags and handlers among them.
+/// Each part of the markup of a component reads nothing but what it looks at, those of its component tags and handlers among them. The content
+/// of a component's tag looks at nothing but what the tag does, whatever stands for a tag or a handler looks at what that does, and each `<slot>`
+/// looks at the owner's view.
 pub fn markup_is_within()
     ensures { IsMarkupMadeWithin }
 {}
