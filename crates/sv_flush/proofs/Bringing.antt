@@ -1,5 +1,7 @@
 -- Tasks that bring about what is wanted of a page, from what is so before.
 use Rattle.std.proofs.Common.{◌≡◌, ℕ, zero, suc, List, [], ◌∷◌, Option, Some, None, refl}
+use Rattle.sv_code.proofs.Each.{each_of}
+use Rattle.sv_code.specs.Names.{Each}
 use Rattle.sv_flush.specs.Destruction.{child_task}
 use Rattle.sv_flush.specs.Flush.{at_front, while_queued, until_settled}
 use Rattle.sv_flush.specs.Outcome.{Outcome, Done, Halted, Step, Task, and_then, each, changed}
@@ -49,9 +51,12 @@ module _ {Q : Page → Type 0} where
   pub changed_brings : {R : Page → Type 0} (f : Page → Page) → ((m : Page) → Q m → R (f m)) → Brings Q R (changed f)
   changed_brings f k = record { held = k }
 
+  pub all_bring : {A : Type 0} (f : A → Task) (xs : List A) → Each (λ x. Brings Q Q (f x)) xs → Brings Q Q (each f xs)
+  all_bring f [] k = record { held = λ m h. h }
+  all_bring f (x ∷ xs) k = record { held = λ m h. after_then Q Q (f x m) (λ _. each f xs) (k.0.held m h) (λ a m' h'. (all_bring f xs k.1).held m' h') }
+
   pub each_brings : {A : Type 0} {f : A → Task} (xs : List A) → ((x : A) → Brings Q Q (f x)) → Brings Q Q (each f xs)
-  each_brings [] k = record { held = λ m h. h }
-  each_brings {f = f} (x ∷ xs) k = record { held = λ m h. after_then Q Q (f x m) (λ _. each f xs) ((k x).held m h) (λ a m' h'. (each_brings xs k).held m' h') }
+  each_brings {f = f} xs k = all_bring f xs (each_of (λ x. Brings Q Q (f x)) k xs)
 
   pub child_brings : {task : ℕ → Task} (o : Option ℕ) → ((n : ℕ) → Brings Q Q (task n)) → Brings Q Q (child_task task o)
   child_brings None k = record { held = λ m h. h }

@@ -10,7 +10,15 @@ pub mod Lookups
 pub mod Bringing
 pub mod Settling
 pub mod Recording
-pub mod Tracking
+pub mod Handing
+pub mod Lasting
+pub mod Standing
 pub mod Playing
+pub mod Tracking
+pub mod Past
+pub mod Agreeing
+pub mod Holding
+pub mod Lending
 pub mod Presenting
 pub mod Blank
+pub mod Knowing

@@ -6,10 +6,13 @@ use Rattle.std.proofs.lemmas.List.{ext_get_or, length-map}
 use Rattle.std.proofs.lemmas.Option.{none-some, same_Some}
 use Rattle.sv_code.specs.declared.program.Program.{Program}
 use Rattle.sv_flush.proofs.Bringing.{Afterwards}
-use Rattle.sv_flush.proofs.Playing.{Tracked, saw_at, mounted_brings, flushed_brings}
+use Rattle.sv_flush.proofs.Lending.{Lends, lends_last, lends_of, holds_of}
+use Rattle.sv_flush.proofs.Playing.{mounted_brings, flushed_brings}
 use Rattle.sv_flush.proofs.Settling.{settled-flushed}
+use Rattle.sv_flush.proofs.Tracking.{Tracked, picture_at, tracks_last}
 use Rattle.sv_flush.specs.Creation.{mounted}
 use Rattle.sv_flush.specs.Flush.{flushed}
+use Rattle.sv_flush.specs.Lent.{HoldsPast}
 use Rattle.sv_flush.specs.Meets.{Meets}
 use Rattle.sv_flush.specs.Outcome.{Done}
 use Rattle.sv_flush.specs.Records.{IsRecorded, IsPresent, RecordsSeen, ShowsPresent}
@@ -64,7 +67,7 @@ pub presents : (m : Page) → Tracked m → IsSettled m → ShowsPresent m
 presents m h settled n i there = over (shown_of m.showing n) refl
   where
     saw : at (snapshots m.world.states) n ≡ Some (snapshot_of i)
-    saw = saw_at m.world.states n (Some i) there
+    saw = picture_at snapshot_of m.world.states n (Some i) there
 
     over : (o : Option Shown) → shown_of m.showing n ≡ o → IsPresent m n i
     over None is = absurd (true≢false (sym (h.records.whole n (snapshot_of i) (λ none. none) saw) ∙ ap is_some is))
@@ -79,10 +82,19 @@ tracked : (m : Page) → IsSound m.world.states → RecordsSeen m → Tracked m
 tracked m sound records = record { sound = sound; records = records }
 
 pub mounted-tracked : (p : Program) (m n : Page) → Tracked m → mounted p m ≡ Done tt n → Tracked n
-mounted-tracked p m n h is = subst (Afterwards Tracked) is ((mounted_brings p).held m h)
+mounted-tracked p m n h is = subst (Afterwards Tracked) is ((mounted_brings tracks_last p []).held m h)
 
 pub flushed-tracked : (p : Program) (m n : Page) → Tracked m → flushed p m ≡ Done tt n → Tracked n
-flushed-tracked p m n h is = subst (Afterwards Tracked) is ((flushed_brings p).held m h)
+flushed-tracked p m n h is = subst (Afterwards Tracked) is ((flushed_brings tracks_last p []).held m h)
+
+abbrev pub Lending : Page → Type 0
+Lending m = Lends [] m.showing.shown m.world.states
+
+pub mounted-lending : (p : Program) (m n : Page) → Lending m → mounted p m ≡ Done tt n → Lending n
+mounted-lending p m n h is = subst (Afterwards Lending) is ((mounted_brings lends_last p []).held m h)
+
+pub flushed-lending : (p : Program) (m n : Page) → Lending m → flushed p m ≡ Done tt n → Lending n
+flushed-lending p m n h is = subst (Afterwards Lending) is ((flushed_brings lends_last p []).held m h)
 
 -- ---- what code answers
 
@@ -91,6 +103,12 @@ module _ (p : Program) (r : Result (Unit {0}) PatchError) (m n : Page) where
   mounted_records = by r where
     by : (r : Result (Unit {0}) PatchError) → IsSound m.world.states → Meets r n (mounted p m) → OnOk r (RecordsSeen m → RecordsSeen n)
     by (Ok u) sound h = λ k. (mounted-tracked p m n (tracked m sound k) h.meets).records
+    by (Err e) sound h = tt
+
+  pub mounted_past : IsSound m.world.states → Meets r n (mounted p m) → OnOk r (HoldsPast m → HoldsPast n)
+  mounted_past = by r where
+    by : (r : Result (Unit {0}) PatchError) → IsSound m.world.states → Meets r n (mounted p m) → OnOk r (HoldsPast m → HoldsPast n)
+    by (Ok u) sound h = λ k. holds_of n (mounted-lending p m n (lends_of m sound k) h.meets)
     by (Err e) sound h = tt
 
   pub flushed_settled : Meets r n (flushed p m) → OnOk r (IsSettled n)
@@ -109,4 +127,10 @@ module _ (p : Program) (r : Result (Unit {0}) PatchError) (m n : Page) where
   flushed_present = by r where
     by : (r : Result (Unit {0}) PatchError) → IsSound m.world.states → Meets r n (flushed p m) → OnOk r (RecordsSeen m → ShowsPresent n)
     by (Ok u) sound h = λ k. presents n (flushed-tracked p m n (tracked m sound k) h.meets) (settled-flushed p m n h.meets)
+    by (Err e) sound h = tt
+
+  pub flushed_past : IsSound m.world.states → Meets r n (flushed p m) → OnOk r (HoldsPast m → HoldsPast n)
+  flushed_past = by r where
+    by : (r : Result (Unit {0}) PatchError) → IsSound m.world.states → Meets r n (flushed p m) → OnOk r (HoldsPast m → HoldsPast n)
+    by (Ok u) sound h = λ k. holds_of n (flushed-lending p m n (lends_of m sound k) h.meets)
     by (Err e) sound h = tt

@@ -26,7 +26,7 @@ pub record RecordsBut (n : ℕ) (saw : List (Option Snapshot)) (shown : List (�
 past-last : (saw : List (Option Snapshot)) (y : Option Snapshot) (n : ℕ) → n ≢ length saw → length saw ≤ n → length (saw ++ y ∷ []) ≤ n
 past-last saw y n other past = let e = length_push saw y in omega (arith, e, other, past)
 
-longer : (saw : List (Option Snapshot)) (y : Option Snapshot) (k : ℕ) → k < length saw → k < length (saw ++ y ∷ [])
+pub longer : (saw : List (Option Snapshot)) (y : Option Snapshot) (k : ℕ) → k < length saw → k < length (saw ++ y ∷ [])
 longer saw y k h = let e = length_push saw y in omega (arith, e)
 
 -- one is left out, and no other

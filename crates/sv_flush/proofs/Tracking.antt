@@ -1,57 +1,162 @@
 -- States that are sound, and records of what is shown that go with them, whatever is done.
-use Rattle.std.proofs.Common.{◌≡◌, ℕ, List, [], ◌∷◌, ◌++◌, length, Option, Some, option_map, refl, sym, subst}
-use Rattle.std.proofs.lemmas.List.{map-append, length-map}
-use Rattle.sv_flush.proofs.Recording.{Only, records-added}
+use Rattle.std.proofs.Common.{◌≡◌, ℕ, List, [], ◌∷◌, ◌++◌, length, map, Option, Some, None, option_map, refl, sym, ap, subst, ◌∙◌}
+use Rattle.std.specs.BTreeMap.{is_at, insert_entry}
+use Rattle.std.specs.Map.{remove_entry}
+use Rattle.std.specs.Ordering.{nat_cmp}
+use Rattle.std.proofs.Math.ListN.{get_or-map}
+use Rattle.std.proofs.lemmas.List.{map-append, map-set, length-map}
+use Rattle.std.proofs.lemmas.Option.{none-some, same_Some}
+use Rattle.sv_flush.proofs.Lasting.{Lasting}
+use Rattle.sv_flush.proofs.Recording.{Only, RecordsBut, records-weaker, records-added, records-gone, records-snapped, records-but, records-dead, records-shown}
 use Rattle.sv_flush.specs.Records.{Records, nobody}
-use Rattle.sv_frame.proofs.Altering.{seen_stays, snapshots-viewed, snapshots-bound}
+use Rattle.sv_flush.specs.declared.page.Page.{Page}
+use Rattle.sv_frame.proofs.Altering.{pictures, seen_stays, lent_stays, snapshots-viewed, snapshots-bound, views-bound}
 use Rattle.sv_frame.proofs.Outcomes.{Stays}
 use Rattle.sv_frame.specs.Snapshots.{snapshot_of, snapshots}
+use Rattle.sv_frame.specs.Views.{lent_views}
 use Rattle.sv_instance.specs.Bound.{Bound}
+use Rattle.sv_instance.specs.Cells.{present}
 use Rattle.sv_instance.specs.declared.instance.Instance.{Instance}
+use Rattle.sv_numbered.specs.Numbered.{at}
 use Rattle.sv_shapes.specs.declared.shown.Shown.{Shown}
-use Rattle.sv_states.proofs.Sounding.{sound-inert, sound-sent, sound-bound, sound-viewed, sound-declared, sound-store, sound-added, sound-subscribed}
+use Rattle.sv_states.proofs.Altering.{at_within, at-altered_same, at-altered_none, altered-none, altered-some}
+use Rattle.sv_states.proofs.Keeping.{new-born}
+use Rattle.sv_states.proofs.Sounding.{sound-inert, sound-sent, sound-bound, sound-viewed, sound-declared, sound-store, sound-added, sound-subscribed, sound-snapped, sound-removed}
 use Rattle.sv_states.specs.Assignment.{way_of, bound_up}
-use Rattle.sv_states.specs.Change.{added, viewed}
+use Rattle.sv_states.specs.Change.{added, removed, viewed}
 use Rattle.sv_states.specs.Prepared.{IsNew}
 use Rattle.sv_states.specs.Sound.{IsSound}
-use Rattle.sv_states.specs.States.{States}
+use Rattle.sv_states.specs.States.{States, live}
+use Rattle.sv_states.specs.Waiting.{snapped}
+use Rattle.sv_states.specs.Waiting as waiting
 use Rattle.sv_view.specs.Level.{View}
+use Rattle.sv_world.specs.World.{present_view}
+
+-- ---- what scripts leave
+
+pub sound_stays : Stays IsSound
+sound_stays = record {
+  left = λ s f n h. sound-inert (λ i. record i { setup = f i.setup }) s n (λ i. refl) (λ i. refl) (λ i. refl) h;
+  assigned = λ s n c v h. sound-sent s (way_of s n c) v h;
+  store_set = λ s id v h. sound-sent s (record { cells = []; store = Some id }) v h;
+  with_store = λ s v h. sound-store s v h;
+  declared = λ s p v h. sound-declared s p v h;
+  subscribed = λ s p id h. sound-subscribed s p id h;
+}
+
+-- a fact of sound states goes by their snapshots and the views that were lent
+pub record GoesBy (P : States → Type 0) : Type 0 where
+  pub sound : (s : States) → P s → IsSound s
+  pub on : (s t : States) → P s → IsSound t → snapshots t ≡ snapshots s → lent_views t ≡ lent_views s → P t
+
+module _ {P : States → Type 0} (goes : GoesBy P) where
+  -- so scripts leave it
+  pub goes_stays : Stays P
+  goes_stays = record {
+    left = λ s f n h. goes.on s _ h (sound_stays.left s f n (goes.sound s h)) ((seen_stays (snapshots s)).left s f n refl) ((lent_stays (lent_views s)).left s f n refl);
+    assigned = λ s n c v h. goes.on s _ h (sound_stays.assigned s n c v (goes.sound s h)) ((seen_stays (snapshots s)).assigned s n c v refl) ((lent_stays (lent_views s)).assigned s n c v refl);
+    store_set = λ s id v h. goes.on s _ h (sound_stays.store_set s id v (goes.sound s h)) ((seen_stays (snapshots s)).store_set s id v refl) ((lent_stays (lent_views s)).store_set s id v refl);
+    with_store = λ s v h. goes.on s _ h (sound_stays.with_store s v (goes.sound s h)) refl refl;
+    declared = λ s p v h. goes.on s _ h (sound_stays.declared s p v (goes.sound s h)) ((seen_stays (snapshots s)).declared s p v refl) ((lent_stays (lent_views s)).declared s p v refl);
+    subscribed = λ s p id h. goes.on s _ h (sound_stays.subscribed s p id (goes.sound s h)) ((seen_stays (snapshots s)).subscribed s p id refl) ((lent_stays (lent_views s)).subscribed s p id refl);
+  }
+
+  -- and what flushes do besides
+  pub goes-bound : (s : States) (n : ℕ) (b : Bound) → P s → P (bound_up s n b)
+  goes-bound s n b h = goes.on s _ h (sound-bound s n b (goes.sound s h)) (snapshots-bound s n b) (views-bound s n b)
+
+  pub goes-setting : (s : States) (n : Option ℕ) → P s → P (record s { setting = n })
+  goes-setting s n h =
+      let k = goes.sound s h in
+      goes.on s _ h (record { seen = k.seen; queued = k.queued; shown = k.shown; dirty = k.dirty; due = k.due; subscribed = k.subscribed }) refl refl
+
+-- ---- records
 
 pub record Tracks (But : ℕ → Type 0) (shown : List (ℕ × Shown)) (s : States) : Type 0 where
   pub sound : IsSound s
   pub records : Records But (snapshots s) shown
 
+-- so it is on a page, for all instances
+abbrev pub Tracked : Page → Type 0
+Tracked m = Tracks nobody m.showing.shown m.world.states
+
 module _ {But : ℕ → Type 0} where
   -- snapshots stay
-  pub tracks_on : (shown : List (ℕ × Shown)) (s t : States) → Tracks But shown s → IsSound t → snapshots t ≡ snapshots s → Tracks But shown t
+  tracks_on : (shown : List (ℕ × Shown)) (s t : States) → Tracks But shown s → IsSound t → snapshots t ≡ snapshots s → Tracks But shown t
   tracks_on shown s t h sound same = record { sound = sound; records = subst (λ saw. Records But saw shown) (sym same) h.records }
+
+  tracks_go : (shown : List (ℕ × Shown)) → GoesBy (Tracks But shown)
+  tracks_go shown = record { sound = λ s h. h.sound; on = λ s t h sound same views. tracks_on shown s t h sound same }
 
   -- whatever scripts do
   pub tracks_stay : (shown : List (ℕ × Shown)) → Stays (Tracks But shown)
-  tracks_stay shown = record {
-    left = λ s f n h. tracks_on shown s _ h (sound-inert (λ i. record i { setup = f i.setup }) s n (λ i. refl) (λ i. refl) (λ i. refl) h.sound) ((seen_stays (snapshots s)).left s f n refl);
-    assigned = λ s n c v h. tracks_on shown s _ h (sound-sent s (way_of s n c) v h.sound) ((seen_stays (snapshots s)).assigned s n c v refl);
-    store_set = λ s id v h. tracks_on shown s _ h (sound-sent s (record { cells = []; store = Some id }) v h.sound) ((seen_stays (snapshots s)).store_set s id v refl);
-    with_store = λ s v h. tracks_on shown s _ h (sound-store s v h.sound) refl;
-    declared = λ s p v h. tracks_on shown s _ h (sound-declared s p v h.sound) ((seen_stays (snapshots s)).declared s p v refl);
-    subscribed = λ s p id h. tracks_on shown s _ h (sound-subscribed s p id h.sound) ((seen_stays (snapshots s)).subscribed s p id refl);
-  }
+  tracks_stay shown = goes_stays (tracks_go shown)
 
-  -- what flushes do besides
-  pub tracks-bound : (shown : List (ℕ × Shown)) (s : States) (n : ℕ) (b : Bound) → Tracks But shown s → Tracks But shown (bound_up s n b)
-  tracks-bound shown s n b h = tracks_on shown s _ h (sound-bound s n b h.sound) (snapshots-bound s n b)
-
-  pub tracks-viewed : (shown : List (ℕ × Shown)) (s : States) (n c : ℕ) (view : View) → Tracks But shown s → Tracks But shown (viewed s n c view)
+  tracks-viewed : (shown : List (ℕ × Shown)) (s : States) (n c : ℕ) (view : View) → Tracks But shown s → Tracks But shown (viewed s n c view)
   tracks-viewed shown s n c view h = tracks_on shown s _ h (sound-viewed s n c view h.sound) (snapshots-viewed s n c view)
 
-  pub tracks-setting : (shown : List (ℕ × Shown)) (s : States) (setting : Option ℕ) → Tracks But shown s → Tracks But shown (record s { setting = setting })
-  tracks-setting shown s setting h =
-      let k = h.sound in
-      record { sound = record { seen = k.seen; queued = k.queued; shown = k.shown; dirty = k.dirty; due = k.due; subscribed = k.subscribed }; records = h.records }
-
-pub tracks-added : (shown : List (ℕ × Shown)) (s : States) (i : Instance) → IsNew i → Tracks nobody shown s → Tracks (Only (length s.lives)) shown (added s i)
+tracks-added : (shown : List (ℕ × Shown)) (s : States) (i : Instance) → IsNew i → Tracks nobody shown s → Tracks (Only (length s.lives)) shown (added s i)
 tracks-added shown s i new h = record {
   sound = sound-added s i new h.sound;
   records = subst (λ saw. Records (Only (length s.lives)) saw shown) (sym (map-append (option_map snapshot_of) s.lives (Some i ∷ [])))
       (subst (λ l. Records (Only l) (snapshots s ++ Some (snapshot_of i) ∷ []) shown) (length-map s.lives (option_map snapshot_of)) (records-added (snapshots s) (Some (snapshot_of i)) shown h.records));
+}
+
+tracks-gone : (shown : List (ℕ × Shown)) (s : States) (n : ℕ) → Tracks nobody shown s → Tracks nobody (remove_entry (is_at (nat_cmp n)) shown) (removed s n)
+tracks-gone shown s n h = record {
+  sound = sound-removed s n h.sound;
+  records = subst (λ saw. Records nobody saw (remove_entry (is_at (nat_cmp n)) shown)) (sym (map-set (option_map snapshot_of) s.lives n None)) (records-gone (snapshots s) n shown h.records);
+}
+
+-- ---- snapshots
+
+-- the picture that a number has, as the states have its instance
+pub picture_at : {X : Type 0} (g : Instance → X) (s : States) (n : ℕ) (o : Option Instance) → live s n ≡ o → at (pictures g s) n ≡ option_map g o
+picture_at g s n o e = get_or-map (option_map g) s.lives n None ∙ ap (option_map g) e
+
+-- a snapshot of an instance was taken just now, and it isn't shown on that yet
+pub record Shot (n : ℕ) (shown : List (ℕ × Shown)) (s : States) : Type 0 where
+  pub sound : IsSound s
+  pub records : RecordsBut n (snapshots s) shown
+  pub now : (i : Instance) → live s n ≡ Some i → i.cells.seen ≡ Some i.cells.now
+
+snapped_but : (n : ℕ) (s : States) (shown : List (ℕ × Shown)) (o : Option Instance) → live s n ≡ o → Records (Only n) (snapshots s) shown → RecordsBut n (snapshots (snapped s n)) shown
+snapped_but n s shown None e h = subst (λ lives. RecordsBut n (map (option_map snapshot_of) lives) shown) (sym (altered-none waiting.shown s.lives n e)) (records-but (snapshots s) n shown h)
+snapped_but n s shown (Some i) e h =
+    subst (λ lives. RecordsBut n (map (option_map snapshot_of) lives) shown) (sym (altered-some waiting.shown s.lives n i e))
+    (subst (λ saw. RecordsBut n saw shown) (sym (map-set (option_map snapshot_of) s.lives n (Some (waiting.shown i)))) (records-snapped (snapshots s) n (Some (snapshot_of (waiting.shown i))) shown h))
+
+-- it saw the present cells
+pub seen-snapped : (n : ℕ) (s : States) (i : Instance) → live (snapped s n) n ≡ Some i → i.cells.seen ≡ Some i.cells.now
+seen-snapped n s = by (live s n) refl where
+  by : (o : Option Instance) → live s n ≡ o → (i : Instance) → live (snapped s n) n ≡ Some i → i.cells.seen ≡ Some i.cells.now
+  by None e i there = absurd (none-some i (sym (at-altered_none waiting.shown s.lives n e) ∙ there))
+  by (Some j) e i there = subst (λ k. k.cells.seen ≡ Some k.cells.now) (same_Some (waiting.shown j) i (sym (at-altered_same waiting.shown s.lives n j e) ∙ there)) refl
+
+tracks-shown : (n : ℕ) (shown : List (ℕ × Shown)) (s : States) (i : Instance) (x : Shown) → live s n ≡ Some i → x.view.own.cells ≡ present i.cells.now → Shot n shown s → Tracks nobody (insert_entry nat_cmp shown n x) s
+tracks-shown n shown s i x there is h = record {
+  sound = h.sound;
+  records = records-shown (snapshots s) n shown (snapshot_of i) x (at_within (snapshots s) n (snapshot_of i) (picture_at snapshot_of s n (Some i) there)) (picture_at snapshot_of s n (Some i) there)
+      (record { seen = ap (option_map present) (h.now i there) ∙ ap Some (sym is); whole = ap length is ∙ length-map i.cells.now _ }) h.records;
+}
+
+-- ---- whatever a flush does
+
+abbrev pub left_out : Option ℕ → ℕ → Type 0
+left_out None = nobody
+left_out (Some n) = Only n
+
+pub tracks_last : Lasting (λ but due. Tracks (left_out but)) (λ n due. Shot n)
+tracks_last = record {
+  scripts = λ but due shown. tracks_stay shown;
+  binds = λ due shown s n b h. goes-bound (tracks_go shown) s n b h;
+  sets = λ but due shown s n h. goes-setting (tracks_go shown) s n h;
+  lends = λ but due shown s n c view d h. tracks-viewed shown s n c view h;
+  spends = λ more due shown s h. h;
+  makes = λ due shown s place cells constants h. tracks-added shown s _ (new-born place cells constants) h;
+  drops = λ due shown s n h. tracks-gone shown s n h;
+  begins = λ n due shown s h. record { sound = h.sound; records = records-weaker nobody (Only n) (snapshots s) shown (λ j none. absurd none) h.records };
+  snaps = λ n due shown s h. record { sound = sound-snapped s n h.sound; records = snapped_but n s shown (live s n) refl h.records; now = seen-snapped n s };
+  passes = λ n due shown s e h. record { sound = h.sound; records = records-dead (snapshots s) n shown (picture_at snapshot_of s n None e) h.records };
+  shows = λ n due shown s modules i parts there h. tracks-shown n shown s i (record { view = present_view modules n i; parts = parts }) there refl h;
 }

@@ -14,3 +14,5 @@ pub mod Sites
 pub mod Flush
 pub mod Settled
 pub mod Records
+pub mod Lent
+pub mod Known

@@ -2,6 +2,7 @@
 ghost use Rattle.std.specs.Prelude.{◌≡◌, [], OnOk, map};
 ghost use Rattle.sv_flush.specs.Creation.{mounted};
 ghost use Rattle.sv_flush.specs.Flush as spec;
+ghost use Rattle.sv_flush.specs.Lent.{HoldsPast};
 ghost use Rattle.sv_flush.specs.Meets.{Meets};
 ghost use Rattle.sv_flush.specs.Outcome.{each};
 ghost use Rattle.sv_flush.specs.Records.{RecordsSeen, ShowsPresent};
@@ -22,10 +23,12 @@ use sv_states::{DEPTH_LIMIT, States};
 use sv_value::Inst;
 
 impl Machine<'_> {
-    /// Runs the module files and makes the root, with all below it. What was recorded stays what snapshots saw.
+    /// Runs the module files and makes the root, with all below it. What was recorded stays what snapshots saw, and the levels of views that are held
+    /// stay no later.
     pub fn mount(&self, page: &mut Page) -> Result<(), PatchError>
         ensures run { Meets result page.new (mounted self.now.program.now page.old) }
         ensures records { OnOk result (RecordsSeen page.old → RecordsSeen page.new) }
+        ensures past { OnOk result (HoldsPast page.old → HoldsPast page.new) }
     {
         page.world.states.facts();
         self.make_root(page)
@@ -110,12 +113,13 @@ impl Machine<'_> {
     }
 
     /// Runs rounds until nobody waits, one at least. A refusal comes exactly where one of them meets it. Where it ends, nothing waits any more, and
-    /// each live instance that is shown is shown on its present cells.
+    /// each live instance that is shown is shown on its present cells. The levels of views that are held stay no later than what snapshots saw.
     pub fn flush(&self, page: &mut Page) -> Result<(), PatchError>
         ensures run { Meets result page.new (spec.flushed self.now.program.now page.old) }
         ensures settled { OnOk result (IsSettled page.new) }
         ensures records { OnOk result (RecordsSeen page.old → RecordsSeen page.new) }
         ensures present { OnOk result (RecordsSeen page.old → ShowsPresent page.new) }
+        ensures past { OnOk result (HoldsPast page.old → HoldsPast page.new) }
     {
         page.world.states.facts();
         self.run_rounds(page)

@@ -6,6 +6,7 @@ mod callbacks;
 mod create;
 mod destroy;
 mod flush;
+mod laws;
 mod machine;
 mod page;
 mod rounds;
@@ -15,6 +16,7 @@ mod site;
 mod wait;
 mod waiting;
 
+pub use laws::{known_views, versions_tell_cells};
 pub use machine::Machine;
 pub use page::Page;
 pub use rounds::Rounds;

@@ -1,11 +1,14 @@
--- What scripts do to the states leaves snapshots as they are.
+-- What scripts do to the states leaves pictures of instances as they are that show nothing of what scripts change: snapshots, and views that were lent.
 use Rattle.std.proofs.Common.{◌≡◌, ℕ, Bool, true, false, List, [], ◌∷◌, map, Option, Some, None, option_map, refl, sym, ap, ◌∙◌, is_some, if◌then◌else◌}
 use Rattle.std.specs.Prelude.{not, ◌&&◌, slice_set}
 use Rattle.std.proofs.Math.Seq.{map-set_same}
 use Rattle.std.proofs.lemmas.List.{length-set}
 use Rattle.sv_frame.proofs.Outcomes.{Stays}
 use Rattle.sv_frame.specs.Snapshots.{Snapshot, snapshot_of, snapshots}
+use Rattle.sv_frame.specs.Views.{lent_views}
 use Rattle.sv_instance.specs.declared.instance.Instance.{Instance}
+use Rattle.sv_instance.specs.declared.setup.Setup.{Setup}
+use Rattle.sv_instance.specs.declared.subscriptions.Subscription.{Subscription}
 use Rattle.sv_numbered.specs.Numbered.{at, altered, altered_over}
 use Rattle.sv_states.specs.Assignment.{Way, changes_in, cell_stored, handing, taken, told, store_set, end_set, written, sent_if, assigned, way_of, with_bound, bound_up}
 use Rattle.sv_states.specs.Change.{declared, with_view, viewed, given, with_subscription, subscribed_over, subscribed_to}
@@ -17,89 +20,144 @@ use Rattle.sv_value.specs.Value.{Val}
 use Rattle.sv_view.specs.Cell.{Cell}
 use Rattle.sv_view.specs.Level.{View}
 
-abbrev snapshots_in : List (Option Instance) → List (Option Snapshot)
-snapshots_in lives = map (option_map snapshot_of) lives
-
-pub snapshots-altered : (f : Instance → Instance) (lives : List (Option Instance)) (n : ℕ) → ((i : Instance) → snapshot_of (f i) ≡ snapshot_of i) → snapshots_in (altered f lives n) ≡ snapshots_in lives
-snapshots-altered f lives n same = by (at lives n) refl where
-  by : (o : Option Instance) → at lives n ≡ o → snapshots_in (altered_over f (at lives n) lives n) ≡ snapshots_in lives
-  by None e = ap (λ o. snapshots_in (altered_over f o lives n)) e
-  by (Some i) e = ap (λ o. snapshots_in (altered_over f o lives n)) e ∙ map-set_same (option_map snapshot_of) lives n (Some (f i)) None (ap Some (same i) ∙ sym (ap (option_map snapshot_of) e))
-
 if_same : {A B : Type 0} (f : A → B) (b : Bool) (x y : A) (z : B) → f x ≡ z → f y ≡ z → f (if b then x else y) ≡ z
 if_same f true x y z h k = h
 if_same f false x y z h k = k
 
-pub snapshots-enqueued : (s : States) (n : ℕ) → snapshots (enqueued s n) ≡ snapshots s
-snapshots-enqueued s n = if_same snapshots_in (joins (live s n)) (altered queued s.lives n) s.lives (snapshots s) (snapshots-altered queued s.lives n (λ i. refl)) refl
+-- a picture of an instance shows nothing of its setup, its subscriptions and its place in the queue, and not what its present cells are
+pub record Plain {X : Type 0} (g : Instance → X) : Type 0 where
+  pub setup : (i : Instance) (u : Setup) → g (record i { setup = u }) ≡ g i
+  pub waits : (i : Instance) → g (queued i) ≡ g i
+  pub subscribed : (i : Instance) (x : Subscription) → g (with_subscription x i) ≡ g i
+  pub written : (i : Instance) (c : ℕ) (x : Option Cell) → g (record i { cells = record i.cells { now = slice_set i.cells.now c x } }) ≡ g i
+
+module _ {X : Type 0} (g : Instance → X) where
+  abbrev pictures_in : List (Option Instance) → List (Option X)
+  pictures_in lives = map (option_map g) lives
+
+  -- the pictures of the live instances, by number
+  abbrev pub pictures : States → List (Option X)
+  pictures s = pictures_in s.lives
+
+  pub pictures-altered : (f : Instance → Instance) (lives : List (Option Instance)) (n : ℕ) → ((i : Instance) → g (f i) ≡ g i) → pictures_in (altered f lives n) ≡ pictures_in lives
+  pictures-altered f lives n same = by (at lives n) refl where
+    by : (o : Option Instance) → at lives n ≡ o → pictures_in (altered_over f (at lives n) lives n) ≡ pictures_in lives
+    by None e = ap (λ o. pictures_in (altered_over f o lives n)) e
+    by (Some i) e = ap (λ o. pictures_in (altered_over f o lives n)) e ∙ map-set_same (option_map g) lives n (Some (f i)) None (ap Some (same i) ∙ sym (ap (option_map g) e))
+
+module _ {X : Type 0} {g : Instance → X} (plain : Plain g) where
+  abbrev seen : States → List (Option X)
+  seen = pictures g
+
+  enqueued_same : (s : States) (n : ℕ) → seen (enqueued s n) ≡ seen s
+  enqueued_same s n = if_same (λ lives. map (option_map g) lives) (joins (live s n)) (altered queued s.lives n) s.lives (seen s) (pictures-altered g queued s.lives n plain.waits) refl
+
+  stored_same : (s : States) (p : Subscriber) (v : Val) → seen (cell_stored s p v) ≡ seen s
+  stored_same s p v = pictures-altered g _ s.lives p.inst (λ i. plain.written i p.cell _)
+
+  handing_same : (p : Subscriber) (v : Val) (next : States → States) (s : States) → ((t : States) → seen (next t) ≡ seen t) → seen (handing p v next s) ≡ seen s
+  handing_same p v next s k =
+      if_same seen (changes_in (live s p.inst) p.cell v) (enqueued (next (cell_stored s p v)) p.inst) s (seen s)
+      (enqueued_same (next (cell_stored s p v)) p.inst ∙ (k (cell_stored s p v) ∙ stored_same s p v)) refl
+
+  taken_same : (s : States) (p : Subscriber) (v : Val) → seen (taken s p v) ≡ seen s
+  taken_same s p v = handing_same p v (λ t. t) s (λ t. refl)
+
+  told_same : (ps : List Subscriber) (v : Val) (s : States) → seen (told ps v s) ≡ seen s
+  told_same [] v s = refl
+  told_same (p ∷ ps) v s = told_same ps v (taken s p v) ∙ taken_same s p v
+
+  set_same : (s : States) (id : ℕ) (v : Val) → seen (store_set s id v) ≡ seen s
+  set_same s id v = if_same seen (differs_at s.stores id v) _ s (seen s) (told_same (subscribers_at s.stores id) v (record s { stores = with_value s.stores id v })) refl
+
+  end_same : (store : Option ℕ) (v : Val) (s : States) → seen (end_set store v s) ≡ seen s
+  end_same None v s = refl
+  end_same (Some id) v s = set_same s id v
+
+  written_same : (ps : List Subscriber) (store : Option ℕ) (v : Val) (s : States) → seen (written ps store v s) ≡ seen s
+  written_same [] store v s = end_same store v s
+  written_same (p ∷ ps) store v s = handing_same p v (written ps store v) s (written_same ps store v)
+
+  assigned_same : (s : States) (n c : ℕ) (v : Val) → seen (assigned s n c v) ≡ seen s
+  assigned_same s n c v = written_same (way_of s n c).cells (way_of s n c).store v s
+
+  sent_if_same : (o : Option Val) (w : Way) (s : States) → seen (sent_if o w s) ≡ seen s
+  sent_if_same None w s = refl
+  sent_if_same (Some v) w s = written_same w.cells w.store v s
+
+  pub pictures-bound : (s : States) (n : ℕ) (b : Bound) → seen (bound_up s n b) ≡ seen s
+  pictures-bound s n b =
+      sent_if_same (value_in (live s n) b.cell) (way_of s b.owner b.target) (with_instance (with_bound b) s n)
+      ∙ pictures-altered g (with_bound b) s.lives n (λ i. plain.setup i (record i.setup { bounds = b ∷ i.setup.bounds }))
+
+  -- an instance that gets its owner's view is queued besides
+  pub pictures-viewed : (s : States) (n c : ℕ) (view : View) → has_cell (live s n) c ≡ true → seen (viewed s n c view) ≡ seen (with_instance (with_view c view) s n)
+  pictures-viewed s n c view b = ap (λ x. seen (if x then enqueued (with_instance (with_view c view) s n) n else s)) b ∙ enqueued_same (with_instance (with_view c view) s n) n
+
+  declared_same : (s : States) (p : Subscriber) (v : Val) → seen (declared s p v) ≡ seen s
+  declared_same s p v = pictures-altered g _ s.lives p.inst (λ i. plain.written i p.cell _)
+
+  given_same : (s : States) (p : Subscriber) (v : Val) → seen (given s p v) ≡ seen s
+  given_same s p v = if_same seen (has_cell (live s p.inst) p.cell) (taken s p v) (declared s p v) (seen s) (taken_same s p v) (declared_same s p v)
+
+  over_same : (o : Option Val) (s : States) (p : Subscriber) (id : ℕ) → seen (subscribed_over o s p id) ≡ seen s
+  over_same None s p id = refl
+  over_same (Some v) s p id =
+      given_same _ p v ∙ pictures-altered g (with_subscription (record { cell = p.cell; store = id })) s.lives p.inst (λ i. plain.subscribed i (record { cell = p.cell; store = id }))
+
+  subscribed_same : (s : States) (p : Subscriber) (id : ℕ) → seen (subscribed_to s p id) ≡ seen s
+  subscribed_same s p id = if_same seen (is_some (live s p.inst) && not (is_subscribed s.stores p)) (subscribed_over (value_at s.stores id) s p id) s (seen s) (over_same (value_at s.stores id) s p id) refl
+
+  -- the pictures are these
+  pub pictures_stay : (old : List (Option X)) → Stays (λ s. pictures g s ≡ old)
+  pictures_stay old = record {
+    left = λ s f n h. pictures-altered g (λ i. record i { setup = f i.setup }) s.lives n (λ i. plain.setup i (f i.setup)) ∙ h;
+    assigned = λ s n c v h. assigned_same s n c v ∙ h;
+    store_set = λ s id v h. set_same s id v ∙ h;
+    with_store = λ s v h. h;
+    declared = λ s p v h. declared_same s p v ∙ h;
+    subscribed = λ s p id h. subscribed_same s p id ∙ h;
+  }
+
+-- ---- snapshots
 
 -- as many cells
 sized : (i : Instance) (c : ℕ) (x : Option Cell) → snapshot_of (record i { cells = record i.cells { now = slice_set i.cells.now c x } }) ≡ snapshot_of i
 sized i c x = ap (λ n. record { count = n; seen = i.cells.seen }) (length-set i.cells.now c x)
 
-stored_same : (s : States) (p : Subscriber) (v : Val) → snapshots (cell_stored s p v) ≡ snapshots s
-stored_same s p v = snapshots-altered _ s.lives p.inst (λ i. sized i p.cell _)
-
-handing_same : (p : Subscriber) (v : Val) (next : States → States) (s : States) → ((t : States) → snapshots (next t) ≡ snapshots t) → snapshots (handing p v next s) ≡ snapshots s
-handing_same p v next s k =
-    if_same snapshots (changes_in (live s p.inst) p.cell v) (enqueued (next (cell_stored s p v)) p.inst) s (snapshots s)
-    (snapshots-enqueued (next (cell_stored s p v)) p.inst ∙ (k (cell_stored s p v) ∙ stored_same s p v)) refl
-
-taken_same : (s : States) (p : Subscriber) (v : Val) → snapshots (taken s p v) ≡ snapshots s
-taken_same s p v = handing_same p v (λ t. t) s (λ t. refl)
-
-told_same : (ps : List Subscriber) (v : Val) (s : States) → snapshots (told ps v s) ≡ snapshots s
-told_same [] v s = refl
-told_same (p ∷ ps) v s = told_same ps v (taken s p v) ∙ taken_same s p v
-
-pub snapshots-set : (s : States) (id : ℕ) (v : Val) → snapshots (store_set s id v) ≡ snapshots s
-snapshots-set s id v = if_same snapshots (differs_at s.stores id v) _ s (snapshots s) (told_same (subscribers_at s.stores id) v (record s { stores = with_value s.stores id v })) refl
-
-end_same : (store : Option ℕ) (v : Val) (s : States) → snapshots (end_set store v s) ≡ snapshots s
-end_same None v s = refl
-end_same (Some id) v s = snapshots-set s id v
-
-written_same : (ps : List Subscriber) (store : Option ℕ) (v : Val) (s : States) → snapshots (written ps store v s) ≡ snapshots s
-written_same [] store v s = end_same store v s
-written_same (p ∷ ps) store v s = handing_same p v (written ps store v) s (written_same ps store v)
-
-pub snapshots-assigned : (s : States) (n c : ℕ) (v : Val) → snapshots (assigned s n c v) ≡ snapshots s
-snapshots-assigned s n c v = written_same (way_of s n c).cells (way_of s n c).store v s
-
-sent_if_same : (o : Option Val) (w : Way) (s : States) → snapshots (sent_if o w s) ≡ snapshots s
-sent_if_same None w s = refl
-sent_if_same (Some v) w s = written_same w.cells w.store v s
+pub plain_snapshot : Plain snapshot_of
+plain_snapshot = record { setup = λ i u. refl; waits = λ i. refl; subscribed = λ i x. refl; written = sized }
 
 pub snapshots-bound : (s : States) (n : ℕ) (b : Bound) → snapshots (bound_up s n b) ≡ snapshots s
-snapshots-bound s n b = sent_if_same (value_in (live s n) b.cell) (way_of s b.owner b.target) (with_instance (with_bound b) s n) ∙ snapshots-altered (with_bound b) s.lives n (λ i. refl)
+snapshots-bound s n b = pictures-bound plain_snapshot s n b
 
 pub snapshots-viewed : (s : States) (n c : ℕ) (view : View) → snapshots (viewed s n c view) ≡ snapshots s
-snapshots-viewed s n c view = if_same snapshots (has_cell (live s n) c) (enqueued (with_instance (with_view c view) s n) n) s (snapshots s)
-    (snapshots-enqueued (with_instance (with_view c view) s n) n ∙ snapshots-altered (with_view c view) s.lives n (λ i. sized i c _)) refl
+snapshots-viewed s n c view = by (has_cell (live s n) c) refl where
+  by : (b : Bool) → has_cell (live s n) c ≡ b → snapshots (viewed s n c view) ≡ snapshots s
+  by true e = pictures-viewed plain_snapshot s n c view e ∙ pictures-altered snapshot_of (with_view c view) s.lives n (λ i. sized i c _)
+  by false e = ap (λ x. snapshots (if x then enqueued (with_instance (with_view c view) s n) n else s)) e
 
-declared_same : (s : States) (p : Subscriber) (v : Val) → snapshots (declared s p v) ≡ snapshots s
-declared_same s p v = snapshots-altered _ s.lives p.inst (λ i. sized i p.cell _)
+-- ---- views that were lent
 
-given_same : (s : States) (p : Subscriber) (v : Val) → snapshots (given s p v) ≡ snapshots s
-given_same s p v = if_same snapshots (has_cell (live s p.inst) p.cell) (taken s p v) (declared s p v) (snapshots s) (taken_same s p v) (declared_same s p v)
+abbrev pub view_of : Instance → Option View
+view_of i = i.owner_view
 
-over_same : (o : Option Val) (s : States) (p : Subscriber) (id : ℕ) → snapshots (subscribed_over o s p id) ≡ snapshots s
-over_same None s p id = refl
-over_same (Some v) s p id = given_same _ p v ∙ snapshots-altered (with_subscription (record { cell = p.cell; store = id })) s.lives p.inst (λ i. refl)
+pub plain_view : Plain view_of
+plain_view = record { setup = λ i u. refl; waits = λ i. refl; subscribed = λ i x. refl; written = λ i c x. refl }
 
-subscribed_same : (s : States) (p : Subscriber) (id : ℕ) → snapshots (subscribed_to s p id) ≡ snapshots s
-subscribed_same s p id = if_same snapshots (is_some (live s p.inst) && not (is_subscribed s.stores p)) (subscribed_over (value_at s.stores id) s p id) s (snapshots s) (over_same (value_at s.stores id) s p id) refl
+pub views-bound : (s : States) (n : ℕ) (b : Bound) → lent_views (bound_up s n b) ≡ lent_views s
+views-bound s n b = pictures-bound plain_view s n b
 
 -- the snapshots are these
 abbrev pub Seen : List (Option Snapshot) → States → Type 0
 Seen old s = snapshots s ≡ old
 
 pub seen_stays : (old : List (Option Snapshot)) → Stays (Seen old)
-seen_stays old = record {
-  left = λ s f n h. snapshots-altered (λ i. record i { setup = f i.setup }) s.lives n (λ i. refl) ∙ h;
-  assigned = λ s n c v h. snapshots-assigned s n c v ∙ h;
-  store_set = λ s id v h. snapshots-set s id v ∙ h;
-  with_store = λ s v h. h;
-  declared = λ s p v h. declared_same s p v ∙ h;
-  subscribed = λ s p id h. subscribed_same s p id ∙ h;
-}
+seen_stays old = pictures_stay plain_snapshot old
+
+-- the views are these
+abbrev pub Lent : List (Option (Option View)) → States → Type 0
+Lent old s = lent_views s ≡ old
+
+pub lent_stays : (old : List (Option (Option View))) → Stays (Lent old)
+lent_stays old = pictures_stay plain_view old

@@ -22,6 +22,16 @@ pub record Stays (P : States → Type 0) : Type 0 where
   pub declared : (s : States) (p : Subscriber) (v : Val) → P s → P (states_change.declared s p v)
   pub subscribed : (s : States) (p : Subscriber) (id : ℕ) → P s → P (states_change.subscribed_to s p id)
 
+pub both_stay : {P R : States → Type 0} → Stays P → Stays R → Stays (λ s. P s × R s)
+both_stay h k = record {
+  left = λ s f n x. (h.left s f n x.0, k.left s f n x.1);
+  assigned = λ s n c v x. (h.assigned s n c v x.0, k.assigned s n c v x.1);
+  store_set = λ s id v x. (h.store_set s id v x.0, k.store_set s id v x.1);
+  with_store = λ s v x. (h.with_store s v x.0, k.with_store s v x.1);
+  declared = λ s p v x. (h.declared s p v x.0, k.declared s p v x.1);
+  subscribed = λ s p id x. (h.subscribed s p id x.0, k.subscribed s p id x.1);
+}
+
 abbrev pub Held : (P : States → Type 0) {A : Type 0} → Outcome A → Type 0
 Held P (Done a env w) = P w.states
 Held P (Failed k s w) = P w.states

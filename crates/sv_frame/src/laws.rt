@@ -3,6 +3,7 @@ ghost use Rattle.std.specs.Prelude.{ℕ, Bool, List};
 ghost use Rattle.sv_base.specs.declared.span.Span.{Span};
 ghost use Rattle.sv_code.specs.declared.program.Program.{Program};
 ghost use Rattle.sv_frame.specs.Snapshots.{LeavesSnapshots};
+ghost use Rattle.sv_frame.specs.Views.{LeavesViews};
 ghost use Rattle.sv_meaning.specs.Runs.{run_modules, run_top, run_reactive, called};
 ghost use Rattle.sv_value.specs.Value.{Val};
 
@@ -13,4 +14,12 @@ pub fn scripts_leave_snapshots()
     ensures top { (p : Program) (n : ℕ) (props : List (ℕ × Val)) → LeavesSnapshots (run_top p n props) }
     ensures reactive { (p : Program) (n : ℕ) (all : Bool) → LeavesSnapshots (run_reactive p n all) }
     ensures calls { (p : Program) (v : Val) (args : List Val) (s : Span) → LeavesSnapshots (called p v args s) }
+{}
+
+/// Nor do they lend a view: each live instance holds the view that its owner handed it last.
+pub fn scripts_lend_no_views()
+    ensures modules { (p : Program) → LeavesViews (run_modules p) }
+    ensures top { (p : Program) (n : ℕ) (props : List (ℕ × Val)) → LeavesViews (run_top p n props) }
+    ensures reactive { (p : Program) (n : ℕ) (all : Bool) → LeavesViews (run_reactive p n all) }
+    ensures calls { (p : Program) (v : Val) (args : List Val) (s : Span) → LeavesViews (called p v args s) }
 {}

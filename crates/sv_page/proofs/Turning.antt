@@ -6,10 +6,11 @@ use Rattle.sv_code.specs.declared.program.Program.{Program}
 use Rattle.sv_document.specs.Element.{Element}
 use Rattle.sv_document.specs.declared.tree.Node.{Node}
 use Rattle.sv_events.specs.declared.event.Event.{Event}
-use Rattle.sv_flush.proofs.Blank.{blank_tracked}
-use Rattle.sv_flush.proofs.Playing.{Tracked}
+use Rattle.sv_flush.proofs.Blank.{blank_tracked, blank_lending}
 use Rattle.sv_flush.proofs.Bringing.{Afterwards}
-use Rattle.sv_flush.proofs.Presenting.{presents, mounted-tracked, flushed-tracked}
+use Rattle.sv_flush.proofs.Holding.{shown-found}
+use Rattle.sv_flush.proofs.Lending.{Lends, lends_stay, lends_of, holds_of, lends-laid}
+use Rattle.sv_flush.proofs.Presenting.{presents, mounted-tracked, flushed-tracked, mounted-lending, flushed-lending}
 use Rattle.sv_flush.proofs.Recording.{records-laid}
 use Rattle.sv_flush.proofs.Settling.{settled-flushed}
 use Rattle.sv_flush.proofs.Tracking.{Tracks, tracks_stay}
@@ -20,7 +21,7 @@ use Rattle.sv_flush.specs.Outcome.{Outcome, Done, Halted, and_then, ended}
 use Rattle.sv_flush.specs.Page.{blank, begun}
 use Rattle.sv_flush.specs.Records.{nobody}
 use Rattle.sv_flush.specs.declared.page.Page.{Page}
-use Rattle.sv_frame.proofs.Outcomes.{Left}
+use Rattle.sv_frame.proofs.Outcomes.{Stays, Left, both_stay}
 use Rattle.sv_frame.specs.Snapshots.{snapshots}
 use Rattle.sv_input.specs.Named.{named}
 use Rattle.sv_input.specs.Typed.{taken, is_bound, laid, laid_down}
@@ -37,43 +38,55 @@ use Rattle.sv_states.specs.Sound.{IsSound}
 use Rattle.sv_states.specs.States.{States}
 use Rattle.sv_tokens.specs.declared.element.Typed.{Typed}
 
+-- what is shown, and the views that are held, go with the states
+abbrev Goes : List (ℕ × Shown) → States → Type 0
+Goes shown states = Tracks nobody shown states × Lends [] shown states
+
+go_on : (shown : List (ℕ × Shown)) → Stays (Goes shown)
+go_on shown = both_stay (tracks_stay shown) (lends_stay [] shown)
+
 -- a page behind a turn, and what is so of it
 abbrev Known : Page → Type 0
-Known m = Tracked m × IsCurrent m
+Known m = Goes m.showing.shown m.world.states × IsCurrent m
 
 abbrev Knows : Outcome Bool → Type 0
 Knows o = Afterwards Known o
 
 -- ---- what users leave
 
-in_tracked : (s : Showing) (n mark : ℕ) (left : Typed) (o : Option Shown) (states : States) → shown_of s n ≡ o → Tracks nobody s.shown states → Tracks nobody (laid_in s n mark left o).shown states
-in_tracked s n mark left None states is h = h
-in_tracked s n mark left (Some x) states is h = record { sound = h.sound; records = records-laid nobody (snapshots states) n s.shown x _ is refl h.records }
+goes_in : (s : Showing) (n mark : ℕ) (left : Typed) (o : Option Shown) (states : States) → shown_of s n ≡ o → Goes s.shown states → Goes (laid_in s n mark left o).shown states
+goes_in s n mark left None states is h = h
+goes_in s n mark left (Some x) states is h =
+    (record { sound = h.0.sound; records = records-laid nobody (snapshots states) n s.shown x _ is refl h.0.records }, lends-laid [] s.shown states n _ (shown-found s.shown n x is) h.1)
 
-if_laid : (b : Bool) (s t : Showing) (states : States) → Tracks nobody s.shown states → Tracks nobody t.shown states → Tracks nobody (if b then s else t).shown states
-if_laid true s t states h k = h
-if_laid false s t states h k = k
+goes_if : (b : Bool) (s t : Showing) (states : States) → Goes s.shown states → Goes t.shown states → Goes (if b then s else t).shown states
+goes_if true s t states h k = h
+goes_if false s t states h k = k
 
-laid_tracked : (o : Option Typed) (e : Element) (s : Showing) (states : States) → Tracks nobody s.shown states → Tracks nobody (laid o e s).shown states
-laid_tracked None e s states h = h
-laid_tracked (Some left) e s states h = if_laid (is_bound left e) s (laid_on s e.inst e.mark left) states h (in_tracked s e.inst e.mark left (shown_of s e.inst) states refl h)
+goes_laid : (o : Option Typed) (e : Element) (s : Showing) (states : States) → Goes s.shown states → Goes (laid o e s).shown states
+goes_laid None e s states h = h
+goes_laid (Some left) e s states h = goes_if (is_bound left e) s (laid_on s e.inst e.mark left) states h (goes_in s e.inst e.mark left (shown_of s e.inst) states refl h)
 
 -- ---- turns
 
-flushed_known : (p : Program) (m : Page) (o : Outcome (Unit {0})) → flushed p m ≡ o → Tracked m → Knows (and_then o (λ _. Done true))
-flushed_known p m (Done u n) is h = let t : Tracked n = flushed-tracked p m n h is in let s = settled-flushed p m n is in (t, record { settled = s; records = t.records; present = presents n t s })
+flushed_known : (p : Program) (m : Page) (o : Outcome (Unit {0})) → flushed p m ≡ o → Goes m.showing.shown m.world.states → Knows (and_then o (λ _. Done true))
+flushed_known p m (Done u n) is h =
+    let t = flushed-tracked p m n h.0 is in
+    let l = flushed-lending p m n h.1 is in
+    let s = settled-flushed p m n is in
+    ((t, l), record { settled = s; records = t.records; present = presents n t s; past = holds_of n l })
 flushed_known p m (Halted r n) is h = tt
 
-mounted_known : (p : Program) (m : Page) (o : Outcome (Unit {0})) → mounted p m ≡ o → Tracked m → Knows (and_then o (λ _. settled p true))
-mounted_known p m (Done u n) is h = flushed_known p n (flushed p n) refl (mounted-tracked p m n h is)
+mounted_known : (p : Program) (m : Page) (o : Outcome (Unit {0})) → mounted p m ≡ o → Goes m.showing.shown m.world.states → Knows (and_then o (λ _. settled p true))
+mounted_known p m (Done u n) is h = flushed_known p n (flushed p n) refl (mounted-tracked p m n h.0 is, mounted-lending p m n h.1 is)
 mounted_known p m (Halted r n) is h = tt
 
 first_known : (p : Program) → Knows (first_turn p blank)
 unfolding first_turn
-first_known p = mounted_known p (begun blank) (mounted p (begun blank)) refl blank_tracked
+first_known p = mounted_known p (begun blank) (mounted p (begun blank)) refl (blank_tracked, blank_lending)
 
 -- behind what an event did where there was an element for it
-walked_known : (p : Program) (m : Page) (e : Ending (Unit {0})) → Left (Tracks nobody m.showing.shown) e → Knows (and_then (ended m (then_do e (λ u. Ends true))) (settled p))
+walked_known : (p : Program) (m : Page) (e : Ending (Unit {0})) → Left (Goes m.showing.shown) e → Knows (and_then (ended m (then_do e (λ u. Ends true))) (settled p))
 walked_known p m (Ends u w) h = flushed_known p (record m { world = w }) (flushed p (record m { world = w })) refl h
 walked_known p m (Fails k s w) h = tt
 
@@ -82,11 +95,11 @@ delivered_known p event None m h = h
 delivered_known p event (Some []) m h = h
 delivered_known p event (Some (e ∷ outer)) m h =
     let s : Showing = laid (taken e event) e m.showing in
-    walked_known p (record m { showing = s }) (walked (delivery p event e) outer m.world) ((walked_leaves (tracks_stay s.shown) (delivery p event e) outer).held m.world (laid_tracked (taken e event) e m.showing m.world.states h.0))
+    walked_known p (record m { showing = s }) (walked (delivery p event e) outer m.world) ((walked_leaves (go_on s.shown) (delivery p event e) outer).held m.world (goes_laid (taken e event) e m.showing m.world.states h.0))
 
 next_known : (p : Program) (event : Event) (nodes : List Node) (m : Page) → Known m → Knows (next_turn p event nodes m)
 unfolding next_turn
-next_known p event nodes m h = delivered_known p event (named event.target nodes) (begun m) (h.0, record { settled = record { queue = h.1.settled.queue; bindings = h.1.settled.bindings; render = h.1.settled.render }; records = h.1.records; present = λ n i there. let k = h.1.present n i there in record { last = k.last; shown = k.shown; cells = k.cells; seen = k.seen } })
+next_known p event nodes m h = delivered_known p event (named event.target nodes) (begun m) (h.0, record { settled = record { queue = h.1.settled.queue; bindings = h.1.settled.bindings; render = h.1.settled.render }; records = h.1.records; present = λ n i there. let k = h.1.present n i there in record { last = k.last; shown = k.shown; cells = k.cells; seen = k.seen }; past = h.1.past })
 
 -- ---- runs
 
@@ -114,5 +127,5 @@ module _ (p : Program) (r : Result Bool PatchError) (m n : Page) where
   pub next_current : (event : Event) (nodes : List Node) → IsSound m.world.states → Meets r n (next_turn p event nodes m) → IsCurrent m → OnOk r (IsCurrent n)
   next_current event nodes = by r where
     by : (r : Result Bool PatchError) → IsSound m.world.states → Meets r n (next_turn p event nodes m) → IsCurrent m → OnOk r (IsCurrent n)
-    by (Ok target) sound h k = (subst Knows h.meets (next_known p event nodes m (record { sound = sound; records = k.records }, k))).1
+    by (Ok target) sound h k = (subst Knows h.meets (next_known p event nodes m ((record { sound = sound; records = k.records }, lends_of m sound k.past), k))).1
     by (Err e) sound h k = tt

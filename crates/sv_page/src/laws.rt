@@ -6,7 +6,8 @@ ghost use Rattle.sv_events.specs.declared.event.Event.{Event};
 ghost use Rattle.sv_page.specs.Current.{LeavesCurrent};
 ghost use Rattle.sv_page.specs.Run.{run};
 
-/// Behind each turn of a run that isn't refused nothing waits, and each live instance that is shown is shown on its present cells.
+/// Behind each turn of a run that isn't refused nothing waits, each live instance that is shown is shown on its present cells, and what views hold of
+/// instances' cells is no later than what their last snapshots saw.
 pub fn turns_leave_current_pages()
     ensures { (p : Program) (events : List Event) → All LeavesCurrent (run p events) }
 {}
