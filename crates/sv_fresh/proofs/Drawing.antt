@@ -158,13 +158,6 @@ each-map step f i (x ∷ xs) = ap (λ ys. step (f x) i ++ ys) (each-map step f (
 pub drawn-each : (s : Scene) (fs : List Frag) (v : View) (shapes : List Shape) → drawn_all s fs v shapes ≡ each (λ f i. frag_drawn s f v (slice_get shapes i)) 0 fs
 drawn-each s fs v shapes = rw (drawn_all-is s fs) (each-map (λ (d : Drawer) i. d v (slice_get shapes i)) (frag_drawn s) 0 fs)
 
-pub no-rows : (h : Head) (body last : Walker) (v : View) (old : Opened) (xs : List Val) → xs ≡ [] → list_nodes h body last v old xs ≡ last v (parts_in old)
-no-rows h body last v old xs e = rw e refl
-
-pub some-rows : (h : Head) (body last : Walker) (v : View) (old : Opened) (xs : List Val) → (xs ≡ [] → ⊥) → list_nodes h body last v old xs ≡ rows_nodes h body v (rows_in old) xs
-some-rows h body last v old [] e = absurd (e refl)
-some-rows h body last v old (x ∷ xs) e = refl
-
 -- ---- the room below an instance
 
 pub no-room : (r : Option ℕ) (room : ℕ) → SomeIff r (1 ≤ room) (room - 1) → r ≡ None → room ≡ 0
