@@ -89,6 +89,7 @@ fn found_beyond(alloc: Global, kind: &str, row: &str) -> Result<String, Unanswer
         "content looks at" => looks::of_content(alloc, row),
         "resolved functions" => resolved::of_program(alloc, Told::Functions, row),
         "resolved parts" => resolved::of_program(alloc, Told::Parts, row),
+        "resolved scripts" => resolved::of_program(alloc, Told::Scripts, row),
         "stores and modules" => resolved::of_program(alloc, Told::Stores, row),
         "line starts" => lines::starts(alloc, row),
         "places" => lines::places(alloc, row),

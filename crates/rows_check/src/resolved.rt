@@ -4,14 +4,15 @@ ghost use Rattle.sv_lines.specs.Lines.{LinesAscend};
 
 use crate::mistakes::refused;
 use crate::read::{Form, program, sources};
-use crate::spelled::{push_body, push_part, push_target};
+use crate::spelled::{push_body, push_part, push_stmts, push_target};
 use crate::unanswered::Unanswered;
 use crate::words::text_of;
 use std::alloc::{AllocError, Global};
 use sv_base::{Name, Names};
 use sv_check::{Checked, check};
 use sv_code::{
-    Component, FileCode, Frag, FragAttr, FragValue, FragValuePart, Function, Handler, Program,
+    CodeStmt, Component, FileCode, Frag, FragAttr, FragValue, FragValuePart, Function, Handler,
+    Program,
 };
 use sv_compile::compile;
 
@@ -22,6 +23,8 @@ pub enum Told {
     Functions,
     /// What names stand for in the expressions of the markup of the first file, of its handlers and of the attributes of its tags.
     Parts,
+    /// What names stand for in the scripts of its files.
+    Scripts,
     /// The stores of the first file, and the modules in the order in which they run.
     Stores,
 }
@@ -49,6 +52,7 @@ fn told_of(alloc: Global, told: Told, program: &Program) -> Result<String, Alloc
     match told {
         Told::Functions => push_functions(&mut line, program)?,
         Told::Parts => push_parts(&mut line, program)?,
+        Told::Scripts => push_scripts(&mut line, program)?,
         Told::Stores => push_stores(&mut line, program)?,
     }
     Ok(line)
@@ -178,6 +182,23 @@ fn push_handler(line: &mut String, program: &Program, number: usize) -> Result<(
             },
         ) => push_part(line, &program.names, part),
         _ => line.push_str(" passed"),
+    }
+}
+
+fn push_scripts(line: &mut String, program: &Program) -> Result<(), AllocError> {
+    for (number, file) in program.files.as_slice().iter().enumerate() {
+        if number > 0 {
+            line.push_str(";")?;
+        }
+        push_stmts(line, &program.names, script_of(&file.code))?;
+    }
+    Ok(())
+}
+
+fn script_of(code: &FileCode) -> &[CodeStmt] {
+    match code {
+        FileCode::Component(component) => component.script.as_slice(),
+        FileCode::Module(module) => module.script.as_slice(),
     }
 }
 

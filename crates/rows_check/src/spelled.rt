@@ -21,6 +21,7 @@ pub fn push_target(line: &mut String, names: &Names, known: Known) -> Result<(),
         Known::Export { file, constant } => write!(line, " {file}:{constant}"),
         Known::Life(life) => write!(line, " {life:?}"),
         Known::Writable => line.push_str(" writable"),
+        Known::Derived => line.push_str(" derived"),
         Known::BuiltIn(given) => write!(line, " {given:?}"),
     }
 }
@@ -135,8 +136,9 @@ fn push_given(line: &mut String, names: &Names, code: &Option<Code>) -> Result<(
     }
 }
 
+/// What names stand for in statements.
 #[cycle(stmts)]
-fn push_stmts(line: &mut String, names: &Names, stmts: &[CodeStmt]) -> Result<(), AllocError> {
+pub fn push_stmts(line: &mut String, names: &Names, stmts: &[CodeStmt]) -> Result<(), AllocError> {
     for stmt in stmts {
         push_stmt(line, names, stmt)?;
     }

@@ -1,9 +1,10 @@
-//! Rows on what is at the floor: numbers, texts and names, values of scripts, the steps from one list of keys to another, worlds, and pages,
+//! Rows on what is at the floor: numbers, texts and names, values of scripts, the steps from one list of keys to another, derived stores, worlds, and pages,
 //! what is told of their changes and what they print. `sv_rows` says how rows are written.
 #![tactic(auto)]
 
 mod bases;
 mod changes;
+mod derived;
 mod keys;
 mod lists;
 mod literals;
@@ -40,6 +41,7 @@ fn answer(alloc: Global, kind: &str, text: &[u8]) -> Result<String, NoMemory> {
         "same" | "differs" => values::two(alloc, kind, text),
         "field" => values::field(alloc, text),
         "steps" => keys::steps(alloc, text),
+        "graph" => derived::graph(alloc, text),
         "scene" => scenes::told(alloc, text),
         "text set" => changes::text_set(alloc, text),
         "twice" => changes::twice(alloc, text),

@@ -2,12 +2,12 @@
 // those of the steps that ask, with `, ` between. An instance is named by its number, and a cell by its instance's number and its own, as in
 // `1.0`.
 use crate::literals::value;
-use crate::{turns, views};
+use crate::{derived, turns};
 use std::alloc::Global;
 use sv_base::NoMemory;
 use sv_instance::Standing;
 use sv_rows::{push_part, yes_or_no};
-use sv_states::AddError;
+use sv_states::{AddError, AssignError};
 use sv_store::Sub;
 use sv_value::{Inst, Value, ValueFault, text_of};
 use sv_view::View;
@@ -174,19 +174,12 @@ impl Scene {
             "assign" => self.assign(first, second),
             "bind" => {
                 let (child, owner) = (self.at(first), self.at(second));
-                self.world
-                    .bind_up(child.inst, child.cell, owner.inst, owner.cell)?;
-                self.silent()
+                let outcome = self
+                    .world
+                    .bind_up(child.inst, child.cell, owner.inst, owner.cell);
+                self.assigned(outcome)
             }
-            "setting" => {
-                let inst = self.inst(rest);
-                self.world.states.begin_setting(inst);
-                self.silent()
-            }
-            "set-up" => {
-                self.world.states.end_setting();
-                self.silent()
-            }
+            "hand-down" => self.hand_down(first, second),
             _ => self.stores(verb, rest),
         }
     }
@@ -201,7 +194,23 @@ impl Scene {
     fn assign(&mut self, at: &str, word: &str) -> Result<String, NoMemory> {
         let Sub { inst, cell } = self.at(at);
         let value = literal(self.alloc, word)?;
-        self.world.assign(inst, cell, value)?;
+        let outcome = self.world.assign(inst, cell, value);
+        self.assigned(outcome)
+    }
+
+    // What an assignment answers.
+    fn assigned(&self, outcome: Result<(), AssignError>) -> Result<String, NoMemory> {
+        match outcome {
+            Ok(()) => self.silent(),
+            Err(AssignError::ReadOnly) => self.word("read only"),
+            Err(AssignError::NoMemory) => Err(NoMemory),
+        }
+    }
+
+    fn hand_down(&mut self, at: &str, word: &str) -> Result<String, NoMemory> {
+        let at = self.at(at);
+        let value = literal(self.alloc, word)?;
+        self.world.states.hand_down(at, value)?;
         self.silent()
     }
 
@@ -213,8 +222,8 @@ impl Scene {
 
     fn set_store(&mut self, store: u32, word: &str) -> Result<String, NoMemory> {
         let value = literal(self.alloc, word)?;
-        self.world.set_store(store, value)?;
-        self.silent()
+        let outcome = self.world.set_store(store, value);
+        self.assigned(outcome)
     }
 
     // What sets stores.
@@ -230,12 +239,12 @@ impl Scene {
                 self.silent()
             }
             "subscriptions" => self.count(self.world.subscriptions()),
-            _ => self.asked(verb, rest),
+            _ => derived::happens(self, verb, rest),
         }
     }
 
-    // What is asked of cells, and who waits.
-    fn asked(&mut self, verb: &str, rest: &str) -> Result<String, NoMemory> {
+    /// What is asked of cells, and who waits.
+    pub fn asked(&mut self, verb: &str, rest: &str) -> Result<String, NoMemory> {
         match verb {
             "cell" => self.cell(self.at(rest)),
             "dirty" => {

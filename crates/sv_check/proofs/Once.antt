@@ -5,7 +5,7 @@ use Rattle.std.proofs.lemmas.List.{drop_more}
 use Rattle.sv_ast.specs.declared.names.Ref.{Ref}
 use Rattle.sv_names.specs.Distinct.{with_names}
 use Rattle.sv_names.proofs.Names.{with_names_append}
-use Rattle.sv_check.specs.Life.{with_place, with_places}
+use Rattle.sv_check.specs.Called.{with_place, with_places}
 
 with_places_append : (places first second : List ℕ) → with_places places (first ++ second) ≡ with_places (with_places places first) second
 with_places_append places [] second = refl

@@ -1,6 +1,7 @@
 -- The mistakes of a file, list by list.
 use Rattle.std.proofs.Common.{◌≡◌, ℕ, List, [], ◌∷◌, ◌++◌, Option, None, Some, fold, length, refl, sym, ap, ◌∙◌, subst, arith, length-append}
 use Rattle.std.specs.Prelude.{slice_get, option_map, Result, Ok, Err, OnOk}
+use Rattle.std.proofs.lemmas.List.Sums.{fold-append}
 use Rattle.std.proofs.lemmas.Option.{slice_get-map}
 use Rattle.sv_ast.specs.declared.files.Bundle.{Bundle}
 use Rattle.sv_ast.specs.declared.files.SourceFile.{SourceFile}
@@ -30,6 +31,11 @@ whole_first a b c d e f g h own f1 f2 f3 f4 f5 f6 f7 f8 e1 e2 is e3 e4 e5 e6 e7 
     let i6 = more f5 f6 (a ++ b ++ c ++ d ++ e) f e6 i5 in
     let i7 = more f6 f7 (a ++ b ++ c ++ d ++ e ++ f) g e7 i6 in
     more f7 f8 (a ++ b ++ c ++ d ++ e ++ f ++ g) h e8 i7
+
+-- the mistakes of three lists that are offered in turn
+pub three_offered : (a b c : List CheckRefusal) (f0 f1 f2 f3 : Option CheckRefusal) → f1 ≡ fold earlier f0 a → f2 ≡ fold earlier f1 b → f3 ≡ fold earlier f2 c → f3 ≡ fold earlier f0 (a ++ b ++ c)
+three_offered a b c f0 f1 f2 f3 e1 e2 e3 =
+    e3 ∙ ap (λ f. fold earlier f c) (e2 ∙ ap (λ f. fold earlier f b) e1 ∙ sym (fold-append earlier f0 a b)) ∙ sym (fold-append earlier f0 (a ++ b) c)
 
 -- where there is no mistake, nothing waits
 pub none_wait : (kind : CheckKind) (front : List CheckRefusal) (places : List Span) → front ++ refused kind places ≡ [] → places ≡ []

@@ -1,6 +1,9 @@
 pub mod Files
 pub mod Stores
+pub mod Imported
+pub mod Called
 pub mod Life
+pub mod Derived
 pub mod Cells
 pub mod Waiting
 pub mod Mistakes

@@ -13,7 +13,7 @@ use Rattle.sv_ast.specs.Files.{statements_of, is_module}
 use Rattle.sv_imports.specs.Unknown.{unknown_imports}
 use Rattle.sv_names.specs.Distinct.{firsts}
 use Rattle.sv_purity.specs.declared.scope.Known.{Known}
-use Rattle.sv_resolve.specs.declared.refusals.CheckKind.TheVariants.{ImportCycle, UnknownImport, BadStore, BadLifecyclePlace, ImpureMarkup, UnknownProp, UnknownSlot, BadBind, TooManyNames, ReactiveCycle}
+use Rattle.sv_resolve.specs.declared.refusals.CheckKind.TheVariants.{ImportCycle, UnknownImport, BadStore, BadLifecyclePlace, BadDerived, ImpureMarkup, UnknownProp, UnknownSlot, BadBind, TooManyNames, ReactiveCycle}
 use Rattle.sv_resolve.specs.declared.refusals.CheckRefusal.{CheckRefusal}
 use Rattle.sv_resolve.specs.Cells.{variables}
 use Rattle.sv_resolve.specs.Mistakes as resolve
@@ -24,6 +24,7 @@ use Rattle.sv_slots.specs.Props.{unknown_props}
 use Rattle.sv_slots.specs.Sheets.{sheet, sheets}
 use Rattle.sv_slots.specs.Slots.{unknown_slots}
 use Rattle.sv_check.specs.Cells.{too_many}
+use Rattle.sv_check.specs.Derived.{bad_derived}
 use Rattle.sv_check.specs.Files.{scopes_of}
 use Rattle.sv_check.specs.Life.{bad_life_places}
 use Rattle.sv_check.specs.Stores.{bad_stores}
@@ -33,14 +34,18 @@ use Rattle.sv_check.specs.Waiting.{AreWaiting}
 abbrev pub at_file : List (List Span) → ℕ → List Span
 at_file places n = slice_index_or places n []
 
--- what is known in the file with a number, whose top level declares some names: its pure functions, and `String` and `Boolean` where it
--- doesn't declare them
-abbrev pub known_in : Table → List (List Ref) → ℕ → List Ref → Known
-known_in table pure n declared = record { functions = firsts (slice_index_or pure n []); conversions = firsts (free_conversions table (firsts declared)) }
+-- the names of pure functions of a file among those of all files
+abbrev pub pure_at : List (List Ref) → ℕ → List Ref
+pure_at pure n = slice_index_or pure n []
+
+-- what is known in a file with some pure functions, whose top level declares some names: these functions, and `String` and `Boolean`
+-- where it doesn't declare them
+abbrev pub known_in : Table → List Ref → List Ref → Known
+known_in table pure declared = record { functions = firsts pure; conversions = firsts (free_conversions table (firsts declared)) }
 
 -- what is known at the top of a file's markup
-abbrev pub known_at_top : Table → List (List Ref) → ℕ → FileTree → Known
-known_at_top table pure n t = known_in table pure n (names_of (scopes_of t).top.declares)
+abbrev pub known_at_top : Table → List Ref → FileTree → Known
+known_at_top table pure t = known_in table pure (names_of (scopes_of t).top.declares)
 
 abbrev pub impure_in : Table → Known → FileTree → List Span
 impure_in table known (tree.Component c) = impure_markup table known c
@@ -51,10 +56,11 @@ abbrev pub variables_of : FileTree → List Ref
 variables_of t = firsts (variables (scopes_of t).top.declares)
 
 -- the mistakes that a file's script shows by itself, beside those of its names
-abbrev pub script_mistakes : Table → FileTree → List CheckRefusal
-script_mistakes table t =
+abbrev pub script_mistakes : Table → List Ref → FileTree → List CheckRefusal
+script_mistakes table pure t =
     resolve.refused BadStore (bad_stores table (not (is_module t)) (scopes_of t).top)
     ++ resolve.refused BadLifecyclePlace (bad_life_places table (not (is_module t)) (statements_of t) (scopes_of t).top)
+    ++ resolve.refused BadDerived (bad_derived table pure (statements_of t) (scopes_of t).top)
 
 -- the mistakes of the tags of a file with some variables
 abbrev pub tag_mistakes : List Ref → List Sheet → Sheet → List CheckRefusal
@@ -72,8 +78,8 @@ file_mistakes bundle cycles pure n source waiting =
     resolve.refused ImportCycle (at_file cycles n)
     ++ resolve.refused UnknownImport (at_file (unknown_imports bundle) n)
     ++ resolve.mistakes table (scopes_of t)
-    ++ script_mistakes table t
-    ++ resolve.refused ImpureMarkup (impure_in table (known_at_top table pure n t) t)
+    ++ script_mistakes table (pure_at pure n) t
+    ++ resolve.refused ImpureMarkup (impure_in table (known_at_top table (pure_at pure n) t) t)
     ++ tag_mistakes (variables_of t) (sheets bundle) (sheet table bundle.files source)
     ++ resolve.refused TooManyNames (too_many table (scopes_of t).top)
     ++ resolve.refused ReactiveCycle waiting

@@ -1,12 +1,16 @@
-// The places where a function of the life of a component may be called.
+// Names that may stand only where they are called in some way.
 ghost use Rattle.std.specs.Prelude.{◌≡◌, [], IfOk, OnOk};
-ghost use Rattle.sv_check.specs.Life as spec;
+ghost use Rattle.sv_check.specs.Called as spec;
 
 use indexmap::IndexSet;
 use std::alloc::Global;
 use std::marker::Model;
-use sv_ast::{Decl, Expr, ExprKind, Stmt, StmtKind};
-use sv_base::NoMemory;
+use sv_ast::{Expr, ExprKind};
+use sv_base::{Names, NoMemory, Span};
+use sv_list::Items;
+use sv_names::Distinct;
+use sv_resolve::name_place;
+use sv_scopes::Use;
 
 /// Places in a file, each once. A clause sees it as the list of them.
 #[derive(Drop)]
@@ -23,7 +27,8 @@ impl Model for Places {
 }
 
 impl Places {
-    fn new(alloc: Global) -> Places
+    /// No places.
+    pub(crate) fn new(alloc: Global) -> Places
         ensures { result ≡ [] }
     {
         Places {
@@ -46,73 +51,37 @@ impl Places {
     }
 }
 
-/// The places at which the names stand that are called as whole statements at the top level of a component, or as whole values there.
-pub(crate) fn free_places(
-    alloc: Global,
-    in_component: bool,
-    stmts: &[Stmt],
-) -> Result<Places, NoMemory>
-    ensures { IfOk result (λ places. places ≡ spec.free_places in_component stmts.now) }
-{
-    let mut places = Places::new(alloc);
-    if in_component {
-        add_stmts(&mut places, stmts)?;
-    }
-    Ok(places)
-}
-
-fn add_stmts(places: &mut Places, stmts: &[Stmt]) -> Result<(), NoMemory>
-    ensures { OnOk result (places.new ≡ spec.with_places places.old (spec.called_at_top stmts.now)) }
-{
-    for stmt in stmts {
-        add_stmt(places, stmt)?;
-    }
-    Ok(())
-}
-
-fn add_stmt(places: &mut Places, stmt: &Stmt) -> Result<(), NoMemory>
-    ensures { OnOk result (places.new ≡ spec.with_places places.old (spec.free_in stmt.now)) }
-{
-    match stmt.kind.get() {
-        StmtKind::Eval(e) => add_called(places, e),
-        StmtKind::Let(decls) | StmtKind::Export(decls) => add_decls(places, decls.as_slice()),
-        StmtKind::Const { decls, .. } => add_decls(places, decls.as_slice()),
-        _ => Ok(()),
-    }
-}
-
-fn add_decls(places: &mut Places, decls: &[Decl]) -> Result<(), NoMemory>
-    ensures { OnOk result (places.new ≡ spec.with_places places.old (spec.called_in decls.now)) }
-{
-    for decl in decls {
-        add_first(places, &decl.first)?;
-    }
-    Ok(())
-}
-
-fn add_first(places: &mut Places, first: &Option<Expr>) -> Result<(), NoMemory>
-    ensures { OnOk result (places.new ≡ spec.with_places places.old (spec.called_first first.now)) }
-{
-    match first {
-        Some(e) => add_called(places, e),
-        None => Ok(()),
-    }
-}
-
-fn add_called(places: &mut Places, e: &Expr) -> Result<(), NoMemory>
-    ensures { OnOk result (places.new ≡ spec.with_places places.old (spec.called e.now)) }
-{
-    match e.kind.get() {
-        ExprKind::Call { of, .. } => add_name(places, of),
-        _ => Ok(()),
-    }
-}
-
-fn add_name(places: &mut Places, e: &Expr) -> Result<(), NoMemory>
+/// Adds the place of the name that an expression is.
+pub(crate) fn add_name(places: &mut Places, e: &Expr) -> Result<(), NoMemory>
     ensures { OnOk result (places.new ≡ spec.with_places places.old (spec.name_of_call e.now)) }
 {
     match e.kind.get() {
         ExprKind::Read(_) => places.add(e.span.from),
         _ => Ok(()),
     }
+}
+
+/// The places of some names that stand elsewhere than where they may.
+pub(crate) fn misplaced(
+    alloc: Global,
+    names: &Names,
+    sought: &Distinct,
+    free: &Places,
+    uses: &[Use],
+) -> Result<Items<Span>, NoMemory>
+    ensures { IfOk result (λ places. places ≡ spec.misplaced names.now sought.now free.now uses.now) }
+{
+    let mut places = Items::new(alloc);
+    for found in uses {
+        if is_misplaced(sought, free, found) {
+            places.push(name_place(names, found))?;
+        }
+    }
+    Ok(places)
+}
+
+fn is_misplaced(sought: &Distinct, free: &Places, found: &Use) -> bool
+    ensures { result ≡ spec.is_misplaced sought.now free.now found.now }
+{
+    sought.has(found.name) && !free.has(found.span.from)
 }

@@ -9,6 +9,7 @@ ghost use Rattle.sv_check.specs.Mistakes as spec;
 
 use crate::cells::too_many;
 use crate::checked::CheckedComponent;
+use crate::derived::bad_derived;
 use crate::first::{join, offer_all};
 use crate::found::Found;
 use crate::life::bad_life_places;
@@ -16,7 +17,7 @@ use crate::markup::{offer_impure, offer_tags};
 use crate::stores::bad_stores;
 use crate::waiting::run_of;
 use std::alloc::Global;
-use sv_ast::{Bundle, FileTree, RefList, SourceFile};
+use sv_ast::{Bundle, FileTree, Ref, RefList, SourceFile};
 use sv_base::{Names, NoMemory, Span};
 use sv_list::Items;
 use sv_resolve::{CheckError, CheckKind, CheckRefusal, Scopes, first_mistake, scopes_of};
@@ -69,17 +70,10 @@ fn file_mistake(
     offer_at(&mut first, CheckKind::UnknownImport, &found.unknown, n);
     let own = first_mistake(alloc, names, scopes)?;
     join(&mut first, own);
-    offer_script(alloc, &mut first, names, &source.tree, &scopes.top)?;
+    let pure = pure_at(&found.pure, n);
+    offer_script(alloc, &mut first, names, pure, &source.tree, &scopes.top)?;
     let declares = scopes.top.declares.as_slice();
-    offer_impure(
-        alloc,
-        &mut first,
-        names,
-        &found.pure,
-        n,
-        &source.tree,
-        declares,
-    )?;
+    offer_impure(alloc, &mut first, names, pure, &source.tree, declares)?;
     offer_tags(alloc, &mut first, found.sheets.as_slice(), n, declares)?;
     let cells = too_many(alloc, names, &scopes.top)?;
     offer_all(&mut first, CheckKind::TooManyNames, cells.as_slice());
@@ -101,22 +95,35 @@ fn offer_at(
     }
 }
 
+// The names of pure functions of a file, among those of all files.
+fn pure_at(pure: &Items<RefList>, n: usize) -> &[Ref]
+    ensures { result.now ≡ spec.pure_at pure.now n }
+{
+    match pure.as_slice().get(n) {
+        Some(own) => own.as_slice(),
+        None => &[],
+    }
+}
+
 // Offers what a file's script shows by itself, beside the mistakes in its names.
 fn offer_script(
     alloc: Global,
     first: &mut Option<CheckRefusal>,
     names: &Names,
+    pure: &[Ref],
     tree: &FileTree,
     top: &Scope,
 ) -> Result<(), NoMemory>
     requires { top.now ≡ (files.scopes_of tree.now).top }
-    ensures { OnOk result (first.new ≡ fold earlier first.old (spec.script_mistakes names.now tree.now)) }
+    ensures { OnOk result (first.new ≡ fold earlier first.old (spec.script_mistakes names.now pure.now tree.now)) }
 {
     let in_component = !tree.is_module();
     let stores = bad_stores(alloc, names, in_component, top)?;
     offer_all(first, CheckKind::BadStore, stores.as_slice());
     let life = bad_life_places(alloc, names, in_component, tree.statements(), top)?;
     offer_all(first, CheckKind::BadLifecyclePlace, life.as_slice());
+    let derived = bad_derived(alloc, names, pure, tree.statements(), top)?;
+    offer_all(first, CheckKind::BadDerived, derived.as_slice());
     Ok(())
 }
 

@@ -4,9 +4,11 @@
 mod called;
 mod cells;
 mod checked;
+mod derived;
 mod file;
 mod first;
 mod found;
+mod imported;
 mod laws;
 mod life;
 mod markup;

@@ -12,7 +12,7 @@ ghost use Rattle.sv_check.specs.Mistakes as spec;
 use crate::cells::variables;
 use crate::first::offer_all;
 use std::alloc::Global;
-use sv_ast::{FileTree, Ref, RefList};
+use sv_ast::{FileTree, Ref};
 use sv_base::{Names, NoMemory, Span};
 use sv_impure::{free_conversions, impure_markup};
 use sv_list::Items;
@@ -22,20 +22,19 @@ use sv_resolve::{CheckKind, CheckRefusal};
 use sv_scopes::Declared;
 use sv_slots::{Sheet, bad_binds, unknown_props, unknown_slots};
 
-/// Offers the expressions of a file's markup that aren't pure. `pure` has the names of pure functions of all files, and `n` is the number
-/// of this one, whose top level declares `declares`.
+/// Offers the expressions of a file's markup that aren't pure. `pure` has the names of the file's pure functions, and its top level
+/// declares `declares`.
 pub(crate) fn offer_impure(
     alloc: Global,
     first: &mut Option<CheckRefusal>,
     names: &Names,
-    pure: &Items<RefList>,
-    n: usize,
+    pure: &[Ref],
     tree: &FileTree,
     declares: &[Declared],
 ) -> Result<(), NoMemory>
-    ensures { OnOk result (first.new ≡ fold earlier first.old (refused kind.ImpureMarkup (spec.impure_in names.now (spec.known_in names.now pure.now n (names_of declares.now)) tree.now))) }
+    ensures { OnOk result (first.new ≡ fold earlier first.old (refused kind.ImpureMarkup (spec.impure_in names.now (spec.known_in names.now pure.now (names_of declares.now)) tree.now))) }
 {
-    let known = known_in(alloc, names, pure, n, declares)?;
+    let known = known_in(alloc, names, pure, declares)?;
     let places = impure_in(alloc, names, &known, tree)?;
     offer_all(first, CheckKind::ImpureMarkup, places.as_slice());
     Ok(())
@@ -93,16 +92,13 @@ fn impure_in(
 fn known_in(
     alloc: Global,
     names: &Names,
-    pure: &Items<RefList>,
-    n: usize,
+    pure: &[Ref],
     declares: &[Declared],
 ) -> Result<Known, NoMemory>
-    ensures { IfOk result (λ known. known ≡ spec.known_in names.now pure.now n (names_of declares.now)) }
+    ensures { IfOk result (λ known. known ≡ spec.known_in names.now pure.now (names_of declares.now)) }
 {
     let mut functions = Distinct::new(alloc);
-    if let Some(own) = pure.as_slice().get(n) {
-        add_all(&mut functions, own.as_slice())?;
-    }
+    add_all(&mut functions, pure)?;
     let declared = declared_names(alloc, declares)?;
     let conversions = free_conversions(alloc, names, &declared)?;
     Ok(Known {

@@ -23,6 +23,9 @@ use sv_resolve::CheckError;
 /// - `BadStore`: `$x` in a module, or where `x` is no constant of the component and no import between braces; at the name.
 /// - `BadLifecyclePlace`: a function of `svelte` that isn't called as a whole statement at a component's top level or as the whole value of a
 ///   name that it declares; at the name.
+/// - `BadDerived`: `derived` of `svelte/store` that isn't called, as the whole value of a constant at the top of a file, with two arguments of
+///   which the second is an arrow of one parameter or the name of a function of one parameter at the top of the file, with a body that
+///   does nothing that that of a pure function may not; at the name.
 /// - `ImpureMarkup`: an expression of markup that isn't pure, as `sv_purity::is_pure` says; at its first impure call or assignment.
 /// - `UnknownProp`: an attribute of a component's tag that the component doesn't declare by `export let`; at the attribute.
 /// - `UnknownSlot`: content of a component's tag for a slot that the component hasn't, or for one that has content before; at its first

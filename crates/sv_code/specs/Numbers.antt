@@ -108,6 +108,7 @@ of_known (known_form.Constant n) = OfConstant n ∷ []
 of_known (known_form.Export file n) = OfExport file n ∷ []
 of_known (known_form.Life life) = []
 of_known known_form.Writable = OfFunction WRITABLE ∷ []
+of_known known_form.Derived = []
 of_known (known_form.BuiltIn given) = []
 
 abbrev pub kind : CodeKind-F (List Number) (List Number) (List Number) (List Number) (List Number) → List Number

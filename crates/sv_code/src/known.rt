@@ -16,6 +16,8 @@ pub enum Known {
     Life(Life),
     /// `writable` of `svelte/store` (Svelte 4 docs, 'svelte/store').
     Writable,
+    /// `derived` of `svelte/store`, which is only called (Svelte 4 docs, 'svelte/store').
+    Derived,
     /// `String`, `Boolean`, `Math` or `console`, which no declaration hides.
     BuiltIn(BuiltIn),
 }

@@ -15,7 +15,7 @@ use Rattle.sv_ast.specs.declared.names.Ref.TheVariants.{Plain, Store}
 use Rattle.sv_ast.specs.declared.script_tree.ImportName.{ImportName}
 use Rattle.sv_ast.specs.declared.script_tree.Stmt.{Stmt}
 use Rattle.sv_ast.specs.declared.script_tree.StmtKind.{StmtKind-F, out-StmtKind}
-use Rattle.sv_base.specs.BuiltIn.{life_functions, store_functions}
+use Rattle.sv_base.specs.BuiltIn.{life_functions}
 use Rattle.sv_base.specs.Names.{Table, is_text, is_one_of}
 use Rattle.sv_base.specs.declared.built_in.TheConstants.{STRING, BOOLEAN, MATH, CONSOLE}
 use Rattle.sv_base.specs.declared.names.Name.{Name}
@@ -30,6 +30,7 @@ use Rattle.sv_code.specs.declared.known.Life.{Life}
 use Rattle.sv_code.specs.declared.program.Prop.{Prop}
 use Rattle.sv_code.specs.declared.program.StoreCell.{StoreCell}
 use Rattle.sv_imports.specs.Imports.{StmtLayer}
+use Rattle.sv_imports.specs.Language.{derived_functions, is_store_function}
 use Rattle.sv_imports.specs.Unknown.{origin_of}
 use Rattle.sv_imports.specs.declared.origin.Origin.{Origin}
 use Rattle.sv_imports.specs.declared.origin.Origin.TheVariants as origin
@@ -127,9 +128,13 @@ module _ (sizes : List Size) (file : ℕ) where
   writable_stands : Stands known.Writable
   writable_stands n writable = All-cons (IsThere (functions_alone sizes (size_at sizes file) n)) (OfFunction WRITABLE) [] writable (All-nil (IsThere (functions_alone sizes (size_at sizes file) n)))
 
-  store_stands : (b : Bool) (k : Known) → (if b then Some known.Writable else None) ≡ Some k → Stands k
-  store_stands true k is = subst (Stands) (same_Some known.Writable k is) (writable_stands)
-  store_stands false k is = absurd (none-some k is)
+  derived_stands : Stands known.Derived
+  derived_stands n writable = All-nil (IsThere (functions_alone sizes (size_at sizes file) n))
+
+  store_stands : (d b : Bool) (k : Known) → (if d then Some known.Derived else (if b then Some known.Writable else None)) ≡ Some k → Stands k
+  store_stands true b k is = subst (Stands) (same_Some known.Derived k is) (derived_stands)
+  store_stands false true k is = subst (Stands) (same_Some known.Writable k is) (writable_stands)
+  store_stands false false k is = absurd (none-some k is)
 
   export_stands : (from n : ℕ) → n < given_in (size_at sizes from) → Stands (known.Export from n)
   export_stands from n below k writable = All-cons (IsThere (functions_alone sizes (size_at sizes file) k)) (OfExport from n) [] below (All-nil (IsThere (functions_alone sizes (size_at sizes file) k)))
@@ -157,7 +162,7 @@ module _ (files : List SourceFile) (told : List CheckedComponent) (size : length
 
   import_stands : (table : Table) (from : Origin) (name : Name) (k : Known) → import_of table files from name ≡ Some k → Stands (sizes_told files told) file k
   import_stands table origin.Life name k is = life_stands (sizes_told files told) file table life_functions LIVES name k is
-  import_stands table origin.Stores name k is = store_stands (sizes_told files told) file (is_one_of table store_functions name) k is
+  import_stands table origin.Stores name k is = store_stands (sizes_told files told) file (is_one_of table derived_functions name) (is_store_function table name) k is
   import_stands table (origin.File from) name k is = file_stands from (slice_get files from) name k refl is
   import_stands table origin.Nowhere name k is = absurd (none-some k is)
 

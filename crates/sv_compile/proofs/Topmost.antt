@@ -11,7 +11,7 @@ use Rattle.sv_ast.specs.declared.names.Ref.TheVariants.{Plain}
 use Rattle.sv_ast.specs.declared.script_tree.ImportName.{ImportName}
 use Rattle.sv_ast.specs.declared.script_tree.Stmt.{Stmt}
 use Rattle.sv_ast.specs.declared.script_tree.StmtKind.{StmtKind-F, out-StmtKind}
-use Rattle.sv_base.specs.BuiltIn.{life_functions, store_functions}
+use Rattle.sv_base.specs.BuiltIn.{life_functions}
 use Rattle.sv_base.specs.declared.built_in.TheConstants.{STRING, BOOLEAN, MATH, CONSOLE}
 use Rattle.sv_base.specs.declared.names.Name.{Name}
 use Rattle.sv_base.specs.Names.{Table, is_text, is_one_of}
@@ -21,6 +21,7 @@ use Rattle.sv_code.specs.declared.known.Known.{Known}
 use Rattle.sv_code.specs.declared.known.Known.TheVariants as known
 use Rattle.sv_code.specs.declared.known.Life.{Life}
 use Rattle.sv_imports.specs.Imports.{StmtLayer}
+use Rattle.sv_imports.specs.Language.{derived_functions, is_store_function}
 use Rattle.sv_imports.specs.Unknown.{origin_of}
 use Rattle.sv_imports.specs.declared.origin.Origin.{Origin}
 use Rattle.sv_imports.specs.declared.origin.Origin.TheVariants as origin
@@ -57,9 +58,10 @@ life_elsewhere table (text ∷ texts) (life ∷ lives) name k is = by (is_text t
     by true more is = subst IsElsewhere (same_Some (known.Life life) k is) tt
     by false more is = more is
 
-store_elsewhere : (b : Bool) (k : Known) → (if b then Some known.Writable else None) ≡ Some k → IsElsewhere k
-store_elsewhere true k is = subst IsElsewhere (same_Some known.Writable k is) tt
-store_elsewhere false k is = absurd (none-some k is)
+store_elsewhere : (d b : Bool) (k : Known) → (if d then Some known.Derived else (if b then Some known.Writable else None)) ≡ Some k → IsElsewhere k
+store_elsewhere true b k is = subst IsElsewhere (same_Some known.Derived k is) tt
+store_elsewhere false true k is = subst IsElsewhere (same_Some known.Writable k is) tt
+store_elsewhere false false k is = absurd (none-some k is)
 
 placed_elsewhere : (file : ℕ) (place : Option ℕ) (k : Known) → option_map (known.Export file) place ≡ Some k → IsElsewhere k
 placed_elsewhere file None k is = absurd (none-some k is)
@@ -71,7 +73,7 @@ export_elsewhere file (Some source) name k is = placed_elsewhere file (place_in 
 
 import_elsewhere : (table : Table) (files : List SourceFile) (from : Origin) (name : Name) (k : Known) → import_of table files from name ≡ Some k → IsElsewhere k
 import_elsewhere table files origin.Life name k is = life_elsewhere table life_functions LIVES name k is
-import_elsewhere table files origin.Stores name k is = store_elsewhere (is_one_of table store_functions name) k is
+import_elsewhere table files origin.Stores name k is = store_elsewhere (is_one_of table derived_functions name) (is_store_function table name) k is
 import_elsewhere table files (origin.File from) name k is = export_elsewhere from (slice_get files from) name k is
 import_elsewhere table files origin.Nowhere name k is = absurd (none-some k is)
 
@@ -112,6 +114,7 @@ module _ (cells : List Ref) where
   elsewhere_stands name (known.Export file n) h = tt
   elsewhere_stands name (known.Life l) h = tt
   elsewhere_stands name known.Writable h = tt
+  elsewhere_stands name known.Derived h = tt
   elsewhere_stands name (known.BuiltIn b) h = tt
 
   given_stand : (given : List Given) → All GivenElsewhere given → All Entry (map given_name given)

@@ -9,7 +9,7 @@ use Rattle.sv_ast.specs.declared.script_tree.Decl.{Decl, out-Decl}
 use Rattle.sv_ast.specs.declared.script_tree.ImportName.{ImportName}
 use Rattle.sv_ast.specs.declared.script_tree.Stmt.{Stmt}
 use Rattle.sv_ast.specs.declared.script_tree.StmtKind.{StmtKind-F, out-StmtKind}
-use Rattle.sv_base.specs.BuiltIn.{life_functions, store_functions}
+use Rattle.sv_base.specs.BuiltIn.{life_functions}
 use Rattle.sv_base.specs.Names.{Table, is_text, is_one_of}
 use Rattle.sv_base.specs.declared.names.Name.{Name}
 use Rattle.sv_code.specs.declared.known.Known.{Known}
@@ -18,6 +18,7 @@ use Rattle.sv_code.specs.declared.known.Life.{Life}
 use Rattle.sv_compile.specs.declared.constants.Given.{Given}
 use Rattle.sv_compile.specs.declared.imports.TheConstants.{LIVES}
 use Rattle.sv_imports.specs.Imports.{StmtLayer}
+use Rattle.sv_imports.specs.Language.{derived_functions, is_store_function}
 use Rattle.sv_imports.specs.Unknown.{origin_of}
 use Rattle.sv_imports.specs.declared.origin.Origin.{Origin}
 use Rattle.sv_imports.specs.declared.origin.Origin.TheVariants as origin
@@ -68,8 +69,9 @@ abbrev pub export_at : ℕ → Option SourceFile → Name → Option Known
 export_at file None name = None
 export_at file (Some source) name = export_of file source.tree name
 
+-- what `svelte/store` gives under a name
 abbrev pub store_given : Table → Name → Option Known
-store_given table name = if is_one_of table store_functions name then Some known.Writable else None
+store_given table name = if is_one_of table derived_functions name then Some known.Derived else (if is_store_function table name then Some known.Writable else None)
 
 -- what an import gives under a name
 abbrev pub import_of : Table → List SourceFile → Origin → Name → Option Known

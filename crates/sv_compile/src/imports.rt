@@ -12,7 +12,7 @@ use sv_ast::{Bundle, ImportName, SourceFile, Stmt, StmtKind};
 use sv_base::built_in::LIFE_FUNCTIONS;
 use sv_base::{Name, Names, NoMemory};
 use sv_code::{Known, Life};
-use sv_imports::{Origin, is_store_function, origin_of};
+use sv_imports::{Origin, is_derived, is_store_function, origin_of};
 use sv_list::Items;
 
 /// What `LIFE_FUNCTIONS` are.
@@ -114,6 +114,9 @@ fn life_among(names: &Names, texts: &[&str], lives: &[Life], name: Name) -> Opti
 fn store_of(names: &Names, name: Name) -> Option<Known>
     ensures { result ≡ spec.store_given names.now name }
 {
+    if is_derived(names, name) {
+        return Some(Known::Derived);
+    }
     if is_store_function(names, name) {
         return Some(Known::Writable);
     }

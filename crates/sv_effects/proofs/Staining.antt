@@ -1,7 +1,7 @@
 -- Stained bodies, and which functions call which.
 use Rattle.std.proofs.Common.{◌≡◌, ℕ, zero, suc, ◌+◌, ◌<◌, Bool, true, false, cond, List, [], ◌∷◌, ◌++◌, Option, None, Some, length, drop, take, map, set, get_or, inl, inr, refl, sym, ap, ◌∙◌, subst, add-one, append_assoc, arith}
-use Rattle.std.specs.Prelude.{All, ◌&&◌, ◌||◌, not, is_some, slice_get, unwrap_or}
-use Rattle.std.specs.List.{AllZip, list_any, filter_map, cons_option, range_with_len}
+use Rattle.std.specs.Prelude.{All, is_some, slice_get, unwrap_or}
+use Rattle.std.specs.List.{list_any, filter_map, cons_option, range_with_len}
 use Rattle.std.specs.Option.{option_to_list}
 use Rattle.std.proofs.lemmas.Bool.{eq-eqb, or_left, false≢true}
 use Rattle.std.proofs.lemmas.List.{get_or-map, get_or_past, get_or_read, drop_more, take_more, length-map}
@@ -10,24 +10,18 @@ use Rattle.std.proofs.lemmas.List.FromFn.{get_or-map-range_with_len, length-map-
 use Rattle.std.proofs.lemmas.Option.{get_or_from_slice_get, slice_get_cases}
 use Rattle.sv_ast.specs.declared.files.Bundle.{Bundle}
 use Rattle.sv_ast.specs.declared.files.SourceFile.{SourceFile}
-use Rattle.sv_ast.specs.declared.names.Ref.{Ref}
-use Rattle.sv_ast.specs.declared.names.Ref.TheVariants.{Plain, Store}
-use Rattle.sv_ast.specs.declared.script_tree.Stmt.{Stmt}
-use Rattle.sv_names.specs.Distinct.{has, firsts}
-use Rattle.sv_names.proofs.Same.{has-firsts}
-use Rattle.sv_base.specs.Names.{Table}
 use Rattle.sv_effects.specs.declared.functions.Function.{Function}
 use Rattle.sv_effects.specs.declared.notes.Sign.{Sign}
-use Rattle.sv_effects.specs.declared.notes.Sign.TheVariants.{Reads, Sets, Calls, Hands, Breaks}
+use Rattle.sv_effects.specs.declared.notes.Sign.TheVariants.{Calls, Hands}
 use Rattle.sv_effects.specs.declared.stains.Calls.{Calls as Found}
 use Rattle.sv_effects.specs.declared.top.Top.{Top}
-use Rattle.sv_effects.specs.Calls.{is_stain_in, points_from, calls_in, AreCalls}
+use Rattle.sv_effects.specs.Calls.{points_from, calls_in, AreCalls}
 use Rattle.sv_ast.specs.Files.{statements_of}
 use Rattle.sv_effects.specs.Functions.{functions}
-use Rattle.sv_names.specs.NameMap.{Entries, number_of}
+use Rattle.sv_names.specs.NameMap.{Entries}
 use Rattle.sv_effects.specs.Known.{known, stmts_at}
-use Rattle.sv_effects.specs.Stains.{is_stain, is_stained, called, calls}
-use Rattle.sv_effects.specs.Top.{IsTop, is_conversion, is_variable, is_variable_in, is_free_call, is_free_in, variables, reactives, declared}
+use Rattle.sv_effects.specs.Stains.{is_stained, stains_among, called, calls}
+use Rattle.sv_effects.specs.Top.{top_of}
 use Rattle.sv_effects.proofs.Bounding.{SomeBelow, point_below, functions_in}
 use Rattle.sv_graph.specs.Links.{is_in, links_of, AddsLinks, IsTurned}
 use Rattle.sv_graph.proofs.Points.{in_left, in_right, in_parts, in_cons}
@@ -35,86 +29,36 @@ use Rattle.sv_graph.proofs.Turning.{adds-none, adds-more, turned-more}
 
 -- ---- stains
 
-top_has : (name : Ref) (names all : List Ref) → names ≡ firsts all → has name names ≡ has name all
-top_has name names all e = ap (has name) e ∙ has-firsts name all
-
-variable_same : (stmts : List Stmt) (top : Top) (name : Ref) → IsTop stmts top → is_variable_in top name ≡ is_variable stmts name
-variable_same stmts top name t =
-    ap (λ b. b || (has name top.reactives && not (has name top.declared))) (top_has name top.variables (variables stmts) t.variables_is)
-    ∙ ap (λ b. has name (variables stmts) || (b && not (has name top.declared))) (top_has name top.reactives (reactives stmts) t.reactives_is)
-    ∙ ap (λ b. has name (variables stmts) || (has name (reactives stmts) && not b)) (top_has name top.declared (declared stmts) t.declared_is)
-
-free_same : (table : Table) (stmts : List Stmt) (top : Top) (name : Ref) → IsTop stmts top → is_free_in table top name ≡ is_free_call table stmts name
-free_same table stmts top name t =
-    ap (λ b. is_conversion table name && (not b && not (has name top.reactives))) (top_has name top.declared (declared stmts) t.declared_is)
-    ∙ ap (λ b. is_conversion table name && (not (has name (declared stmts)) && not b)) (top_has name top.reactives (reactives stmts) t.reactives_is)
-
-stain_same : (bundle : Bundle) (file : ℕ) (top : Top) (s : Sign) → IsTop (stmts_at bundle.files file) top → is_stain_in bundle.names top (known bundle file) s ≡ is_stain bundle file s
-stain_same bundle file top (Reads (Store name)) t = refl
-stain_same bundle file top (Reads (Plain name)) t = variable_same (stmts_at bundle.files file) top (Plain name) t
-stain_same bundle file top (Sets name) t = refl
-stain_same bundle file top (Calls name) t = ap (λ b. not (is_some (number_of (known bundle file) name) || b)) (free_same bundle.names (stmts_at bundle.files file) top name t)
-stain_same bundle file top (Hands name) t = refl
-stain_same bundle file top Breaks t = refl
-
-any_same : {X : Type 0} (p q : X → Bool) (xs : List X) → ((x : X) → p x ≡ q x) → list_any p xs ≡ list_any q xs
-any_same p q [] each = refl
-any_same p q (x ∷ xs) each = ap (λ b. b || list_any p xs) (each x) ∙ ap (λ b. q x || b) (any_same p q xs each)
-
-zip_at : {X Y : Type 0} (R : X → Y → Type 0) (xs : List X) (ys : List Y) (i : ℕ) (x : X) (y : Y) → AllZip R xs ys → i < length xs → R (get_or xs i x) (get_or ys i y)
-zip_at R [] ys i x y a h = absurd (omega (arith, h))
-zip_at R (x ∷ xs) [] i d e a h = absurd a
-zip_at R (x ∷ xs) (y ∷ ys) zero d e a h = a.0
-zip_at R (x ∷ xs) (y ∷ ys) (suc i) d e a h = zip_at R xs ys i d e a.1 (omega (arith, h))
-
-pub zip_length : {X Y : Type 0} (R : X → Y → Type 0) (xs : List X) (ys : List Y) → AllZip R xs ys → length ys ≡ length xs
-zip_length R [] [] a = refl
-zip_length R [] (y ∷ ys) a = absurd a
-zip_length R (x ∷ xs) [] a = absurd a
-zip_length R (x ∷ xs) (y ∷ ys) a = ap suc (zip_length R xs ys a.1)
-
 pub row_is : (f : ℕ → Entries) (table : List Entries) (n i : ℕ) (row : Entries) → table ≡ map f (range_with_len 0 n) → i < n → row ≡ get_or table i row → row ≡ f i
 row_is f table n i row e h r = r ∙ ap (λ t. get_or t i row) e ∙ get_or-map-range_with_len f 0 n i i row h (omega arith)
 
 pub row_within : (f : ℕ → Entries) (table now : List Entries) (n i : ℕ) → now ≡ table → table ≡ map f (range_with_len 0 n) → i < n → i < length now
 row_within f table now n i d e h = omega (arith, ap length d, ap length e, length-map-range_with_len f 0 n, h)
 
-pub top_within : (files : List SourceFile) (tops now : List Top) (i : ℕ) → now ≡ tops → AllZip (λ source top. IsTop (statements_of source.tree) top) files tops → i < length files → i < length now
-top_within files tops now i d a h = omega (arith, ap length d, zip_length (λ source top. IsTop (statements_of source.tree) top) files tops a, h)
+pub top_within : (files : List SourceFile) (tops now : List Top) (i : ℕ) → now ≡ tops → tops ≡ map (λ (s : SourceFile). top_of (statements_of s.tree)) files → i < length files → i < length now
+top_within files tops now i d e h = omega (arith, ap length d, ap length e, length-map files (λ (s : SourceFile). top_of (statements_of s.tree)), h)
 
 -- a function is of one of the files
 pub file_within : (bundle : Bundle) (fs : List Function) (p : ℕ) (f : Function) → fs ≡ functions bundle → p < length fs → f ≡ get_or fs p f → f.file < length bundle.files
 file_within bundle fs p f e h is =
     subst (λ (z : Function). z.file < length bundle.files) (sym is) (All-get_or (λ (z : Function). z.file < length bundle.files) fs p f h (functions_in bundle fs (length bundle.files) e refl))
 
-zip_push : {X Y : Type 0} (R : X → Y → Type 0) (xs : List X) (ys : List Y) (x : X) (y : Y) → AllZip R xs ys → R x y → AllZip R (xs ++ x ∷ []) (ys ++ y ∷ [])
-zip_push R [] [] x y a r = (r, tt)
-zip_push R [] (z ∷ ys) x y a r = absurd a
-zip_push R (z ∷ xs) [] x y a r = absurd a
-zip_push R (w ∷ xs) (z ∷ ys) x y a r = (a.0, zip_push R xs ys x y a.1 r)
-
--- what the top level of one more file declares
-pub tops_more : (files : List SourceFile) (tops new : List Top) (i : ℕ) (source : SourceFile) (stmts : List Stmt) (top : Top) → i < length files → source ≡ get_or files i source → AllZip (λ source top. IsTop (statements_of source.tree) top) (take i files) tops
-    → stmts ≡ statements_of source.tree → IsTop stmts top → new ≡ tops ++ top ∷ [] → AllZip (λ source top. IsTop (statements_of source.tree) top) (take (i + 1) files) new
-tops_more files tops new i source stmts top within is a s t n =
-    let R = λ (f : SourceFile) (z : Top). IsTop (statements_of f.tree) z in
-    let whole : take (i + 1) files ≡ take i files ++ source ∷ [] = take_more files i source within ∙ ap (λ z. take i files ++ z ∷ []) (sym is) in
-    subst (λ z. AllZip R z new) (sym whole) (subst (λ z. AllZip R (take i files ++ source ∷ []) z) (sym n) (zip_push R (take i files) tops source top a (subst (λ z. IsTop z top) s t)))
+-- what the top level of a file declares, among those of all files
+top_is : (files : List SourceFile) (i : ℕ) (top : Top) → i < length files → top ≡ get_or (map (λ (s : SourceFile). top_of (statements_of s.tree)) files) i top → top ≡ top_of (stmts_at files i)
+top_is [] i top h e = absurd (omega (arith, h))
+top_is (s ∷ files) zero top h e = e
+top_is (s ∷ files) (suc i) top h e = top_is files i top (omega (arith, h)) e
 
 -- the signs of a function are stains by the tables
-pub stained_is : (bundle : Bundle) (f : Function) (tops : List Top) (top : Top) (table : List Entries) (row : Entries) (signs : List Sign) → AllZip (λ source top. IsTop (statements_of source.tree) top) bundle.files tops → table ≡ map (known bundle) (range_with_len 0 (length bundle.files)) → f.file < length bundle.files
-    → top ≡ get_or tops f.file top → row ≡ get_or table f.file row → signs ≡ f.signs → list_any (is_stain_in bundle.names top row) signs ≡ is_stained bundle f
-stained_is bundle f tops top table row signs zipped t h at r s =
+pub stained_is : (bundle : Bundle) (f : Function) (tops : List Top) (top : Top) (table : List Entries) (row : Entries) (signs : List Sign) → tops ≡ map (λ (s : SourceFile). top_of (statements_of s.tree)) bundle.files
+    → table ≡ map (known bundle) (range_with_len 0 (length bundle.files)) → f.file < length bundle.files → top ≡ get_or tops f.file top → row ≡ get_or table f.file row → signs ≡ f.signs
+    → list_any (stains_among bundle.names top row) signs ≡ is_stained bundle f
+stained_is bundle f tops top table row signs z t h at r s =
     let row_same : row ≡ known bundle f.file = row_is (known bundle) table (length bundle.files) f.file row t h r in
-    ap (λ k. list_any (is_stain_in bundle.names top k) signs) row_same
-    ∙ any_same (is_stain_in bundle.names top (known bundle f.file)) (is_stain bundle f.file) signs (λ sign. stain_same bundle f.file top sign (here bundle.files f.file tops top zipped h at))
-    ∙ ap (list_any (is_stain bundle f.file)) s
-  where
-    here : (files : List SourceFile) (i : ℕ) (tops : List Top) (top : Top) → AllZip (λ source top. IsTop (statements_of source.tree) top) files tops → i < length files → top ≡ get_or tops i top → IsTop (stmts_at files i) top
-    here [] i tops top a h e = absurd (omega (arith, h))
-    here (s ∷ files) i [] top a h e = absurd a
-    here (s ∷ files) zero (t ∷ tops) top a h e = subst (IsTop (statements_of s.tree)) (sym e) a.0
-    here (s ∷ files) (suc i) (t ∷ tops) top a h e = here files i tops top a.1 (omega (arith, h)) e
+    let top_same : top ≡ top_of (stmts_at bundle.files f.file) = top_is bundle.files f.file top h (at ∙ ap (λ l. get_or l f.file top) z) in
+    ap (λ k. list_any (stains_among bundle.names top k) signs) row_same
+    ∙ ap (λ l. list_any (stains_among bundle.names l (known bundle f.file)) signs) top_same
+    ∙ ap (list_any (stains_among bundle.names (top_of (stmts_at bundle.files f.file)) (known bundle f.file))) s
 
 -- ---- the points of stained bodies
 

@@ -1,28 +1,13 @@
 -- Stained bodies and callers, as tables tell them.
-use Rattle.std.specs.Prelude.{◌≡◌, ℕ, suc, ◌||◌, not, Bool, true, List, [], ◌∷◌, ◌++◌, Some, is_some, length, slice_get, slice_index_or, if◌then◌else◌}
+use Rattle.std.specs.Prelude.{◌≡◌, ℕ, suc, Bool, true, List, [], ◌∷◌, ◌++◌, Some, is_some, length, slice_get, slice_index_or, if◌then◌else◌}
 use Rattle.std.specs.List.{filter_map}
 use Rattle.sv_ast.specs.declared.files.Bundle.{Bundle}
-use Rattle.sv_ast.specs.declared.names.Ref.TheVariants.{Plain, Store}
-use Rattle.sv_base.specs.Names.{Table}
 use Rattle.sv_effects.specs.declared.functions.Function.{Function}
-use Rattle.sv_effects.specs.declared.notes.Sign.{Sign}
-use Rattle.sv_effects.specs.declared.notes.Sign.TheVariants.{Reads, Sets, Calls, Hands, Breaks}
 use Rattle.sv_effects.specs.declared.stains.Calls.{Calls as Found}
-use Rattle.sv_effects.specs.declared.top.Top.{Top}
 use Rattle.sv_effects.specs.Functions.{functions}
-use Rattle.sv_names.specs.NameMap.{Entries, number_of}
+use Rattle.sv_names.specs.NameMap.{Entries}
 use Rattle.sv_effects.specs.Stains.{is_stained, called, calls}
-use Rattle.sv_effects.specs.Top.{is_variable_in, is_free_in}
 use Rattle.sv_graph.specs.Links.{is_in, links_of}
-
--- a sign stains a body where the top level and the known functions are these
-abbrev pub is_stain_in : Table → Top → Entries → Sign → Bool
-is_stain_in table top points (Reads (Store name)) = true
-is_stain_in table top points (Reads (Plain name)) = is_variable_in top (Plain name)
-is_stain_in table top points (Sets name) = true
-is_stain_in table top points (Calls name) = not (is_some (number_of points name) || is_free_in table top name)
-is_stain_in table top points (Hands name) = not (is_some (number_of points name))
-is_stain_in table top points Breaks = true
 
 -- the numbers of those of some functions that pass a test, where the first has a number
 abbrev pub points_from : (Function → Bool) → ℕ → List Function → List ℕ

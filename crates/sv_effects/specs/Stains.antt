@@ -7,32 +7,38 @@ use Rattle.std.specs.List.{list_any, filter_map, range_with_len}
 use Rattle.sv_ast.specs.declared.files.Bundle.{Bundle}
 use Rattle.sv_ast.specs.declared.names.Ref.{Ref}
 use Rattle.sv_ast.specs.declared.names.Ref.TheVariants.{Plain, Store}
+use Rattle.sv_base.specs.Names.{Table}
 use Rattle.sv_effects.specs.declared.functions.Function.{Function}
 use Rattle.sv_effects.specs.declared.notes.Sign.{Sign}
 use Rattle.sv_effects.specs.declared.notes.Sign.TheVariants.{Reads, Sets, Calls, Hands, Breaks}
+use Rattle.sv_effects.specs.declared.top.Top.{Top}
 use Rattle.sv_effects.specs.Functions.{functions}
 use Rattle.sv_names.specs.NameMap.{Entries, number_of}
 use Rattle.sv_effects.specs.Known.{names_without, known, stmts_at}
-use Rattle.sv_effects.specs.Top.{is_variable, is_free_call}
+use Rattle.sv_effects.specs.Top.{top_of, is_variable, is_free_call}
 use Rattle.sv_graph.specs.Links.{is_in}
 
--- a sign stains a body in a file
-abbrev pub is_stain : Bundle → ℕ → Sign → Bool
-is_stain bundle file (Reads (Store name)) = true
-is_stain bundle file (Reads (Plain name)) = is_variable (stmts_at bundle.files file) (Plain name)
-is_stain bundle file (Sets name) = true
-is_stain bundle file (Calls name) = not (is_some (number_of (known bundle file) name) || is_free_call bundle.names (stmts_at bundle.files file) name)
-is_stain bundle file (Hands name) = not (is_some (number_of (known bundle file) name))
-is_stain bundle file Breaks = true
-
-abbrev pub is_stained : Bundle → Function → Bool
-is_stained bundle f = list_any (is_stain bundle f.file) f.signs
+-- a sign stains a body in a file with such a top level, where the function that it calls or hands on is known, or isn't
+abbrev pub stains : Table → Top → Bool → Sign → Bool
+stains table top is_known (Reads (Store name)) = true
+stains table top is_known (Reads (Plain name)) = is_variable top (Plain name)
+stains table top is_known (Sets name) = true
+stains table top is_known (Calls name) = not (is_known || is_free_call table top name)
+stains table top is_known (Hands name) = not is_known
+stains table top is_known Breaks = true
 
 -- the function that a sign calls, or hands to a call on a list
 abbrev pub called : Entries → Sign → Option ℕ
 called names (Calls name) = number_of names name
 called names (Hands name) = number_of names name
 called names _ = None
+
+-- a sign stains a body where some functions are known
+abbrev pub stains_among : Table → Top → Entries → Sign → Bool
+stains_among table top names s = stains table top (is_some (called names s)) s
+
+abbrev pub is_stained : Bundle → Function → Bool
+is_stained bundle f = list_any (stains_among bundle.names (top_of (stmts_at bundle.files f.file)) (known bundle f.file)) f.signs
 
 -- the functions that a body calls or hands to a call on a list
 abbrev pub calls : Bundle → Function → List ℕ

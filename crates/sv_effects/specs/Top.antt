@@ -1,5 +1,5 @@
 -- What the top level of a file declares.
-use Rattle.std.specs.Prelude.{◌≡◌, Bool, not, ◌&&◌, ◌||◌, List, [], ◌∷◌, map, false}
+use Rattle.std.specs.Prelude.{Bool, not, ◌&&◌, ◌||◌, List, [], ◌∷◌, map, false}
 use Rattle.std.specs.List.{flat_map}
 use Rattle.sv_ast.specs.declared.names.Ref.{Ref}
 use Rattle.sv_ast.specs.declared.names.Ref.TheVariants.{Plain, Store}
@@ -8,7 +8,7 @@ use Rattle.sv_ast.specs.declared.script_tree.Decl.{Decl, out-Decl}
 use Rattle.sv_ast.specs.declared.script_tree.ExprKind.{ExprKind-F, out-ExprKind}
 use Rattle.sv_ast.specs.declared.script_tree.Stmt.{Stmt}
 use Rattle.sv_ast.specs.declared.script_tree.StmtKind.{StmtKind-F, out-StmtKind}
-use Rattle.sv_names.specs.Distinct.{has, with_names}
+use Rattle.sv_names.specs.Distinct.{has, firsts}
 use Rattle.sv_names.specs.Uses.{named}
 use Rattle.sv_base.specs.BuiltIn.{conversions}
 use Rattle.sv_base.specs.Names.{Table, is_one_of}
@@ -55,9 +55,13 @@ reactives stmts = flat_map reactive stmts
 abbrev pub declared : List Stmt → List Ref
 declared stmts = flat_map (λ s. (stmt_part s).declares) stmts
 
+-- what the top level of a file with some statements declares
+abbrev pub top_of : List Stmt → Top
+top_of stmts = record { declared = firsts (declared stmts); variables = firsts (variables stmts); reactives = firsts (reactives stmts) }
+
 -- a name is that of a variable
-abbrev pub is_variable : List Stmt → Ref → Bool
-is_variable stmts name = has name (variables stmts) || (has name (reactives stmts) && not (has name (declared stmts)))
+abbrev pub is_variable : Top → Ref → Bool
+is_variable top name = has name top.variables || (has name top.reactives && not (has name top.declared))
 
 -- a name is `String` or `Boolean`
 abbrev pub is_conversion : Table → Ref → Bool
@@ -65,18 +69,5 @@ is_conversion table (Plain name) = is_one_of table conversions name
 is_conversion table (Store name) = false
 
 -- the name is such a one, and the file doesn't declare it anew
-abbrev pub is_free_call : Table → List Stmt → Ref → Bool
-is_free_call table stmts name = is_conversion table name && (not (has name (declared stmts)) && not (has name (reactives stmts)))
-
--- ---- tables of these names
-
-pub record IsTop (stmts : List Stmt) (top : Top) : Type 0 where
-  pub declared_is : top.declared ≡ with_names [] (declared stmts)
-  pub variables_is : top.variables ≡ with_names [] (variables stmts)
-  pub reactives_is : top.reactives ≡ with_names [] (reactives stmts)
-
-abbrev pub is_variable_in : Top → Ref → Bool
-is_variable_in top name = has name top.variables || (has name top.reactives && not (has name top.declared))
-
-abbrev pub is_free_in : Table → Top → Ref → Bool
-is_free_in table top name = is_conversion table name && (not (has name top.declared) && not (has name top.reactives))
+abbrev pub is_free_call : Table → Top → Ref → Bool
+is_free_call table top name = is_conversion table name && (not (has name top.declared) && not (has name top.reactives))

@@ -1,13 +1,13 @@
 // The functions with stained bodies, and which functions call which.
 ghost use Rattle.std.specs.Prelude.{◌≡◌, ◌∷◌, ◌++◌, ◌<◌, ◌^◌, [], IfOk, OnOk, All, length, map, slice_index_or, slice_set, if◌then◌else◌};
-ghost use Rattle.std.specs.List.{AllZip, list_any, filter_map, range_with_len};
+ghost use Rattle.std.specs.List.{list_any, filter_map, range_with_len};
 ghost use Rattle.std.specs.Option.{option_to_list};
 ghost use Rattle.sv_ast.specs.Files.{statements_of};
 ghost use Rattle.sv_effects.specs.Calls as spec;
 ghost use Rattle.sv_effects.specs.Functions.{functions as all_functions};
 ghost use Rattle.sv_effects.specs.Known.{known as all_known};
-ghost use Rattle.sv_effects.specs.Stains.{called as spec_called, is_stained as has_stain};
-ghost use Rattle.sv_effects.specs.Top.{IsTop};
+ghost use Rattle.sv_effects.specs.Stains as stain;
+ghost use Rattle.sv_effects.specs.Top.{top_of};
 ghost use Rattle.sv_graph.specs.Links.{AddsLinks, IsTurned};
 
 use crate::functions::Function;
@@ -54,7 +54,7 @@ fn stained_of(
     requires functions { functions.now ≡ all_functions bundle.now }
     requires few { length functions.now < 2 ^ 32 }
     requires known { known.now ≡ map (all_known bundle.now) (range_with_len 0 (length bundle.now.files)) }
-    ensures { IfOk result (λ stained. stained.items ≡ spec.points_from (has_stain bundle.now) 0 functions.now) }
+    ensures { IfOk result (λ stained. stained.items ≡ spec.points_from (stain.is_stained bundle.now) 0 functions.now) }
 {
     let tops = tops_of(alloc, bundle)?;
     let mut stained = Vec::new(alloc);
@@ -76,7 +76,7 @@ fn push_if(points: &mut Vec<u32>, is_wanted: bool, point: u32) -> Result<(), NoM
 
 // What the top levels of the files declare.
 fn tops_of(alloc: Global, bundle: &Bundle) -> Result<Vec<Top>, NoMemory>
-    ensures { IfOk result (λ tops. AllZip (λ source top. IsTop (statements_of source.tree) top) bundle.now.files tops.items) }
+    ensures { IfOk result (λ tops. tops.items ≡ map (λ source. top_of (statements_of source.tree)) bundle.now.files) }
 {
     let files = bundle.files.as_slice();
     let mut tops = Vec::new(alloc);
@@ -88,12 +88,12 @@ fn tops_of(alloc: Global, bundle: &Bundle) -> Result<Vec<Top>, NoMemory>
 
 // Whether the body of a function is stained.
 fn is_stained(bundle: &Bundle, tops: &[Top], known: &[NameMap], function: &Function) -> bool
-    requires tops { AllZip (λ source top. IsTop (statements_of source.tree) top) bundle.now.files tops.now }
+    requires tops { tops.now ≡ map (λ source. top_of (statements_of source.tree)) bundle.now.files }
     requires known { known.now ≡ map (all_known bundle.now) (range_with_len 0 (length bundle.now.files)) }
     requires file { function.now.file < length bundle.now.files }
     requires in_tops { function.now.file < length tops.now }
     requires in_known { function.now.file < length known.now }
-    ensures { result ≡ has_stain bundle.now function.now }
+    ensures { result ≡ stain.is_stained bundle.now function.now }
 {
     let file = function.file;
     is_any_stain(
@@ -105,24 +105,25 @@ fn is_stained(bundle: &Bundle, tops: &[Top], known: &[NameMap], function: &Funct
 }
 
 fn is_any_stain(names: &Names, top: &Top, known: &NameMap, signs: &[Sign]) -> bool
-    ensures { result ≡ list_any (spec.is_stain_in names.now top.now known.now) signs.now }
+    ensures { result ≡ list_any (stain.stains_among names.now top.now known.now) signs.now }
 {
     for sign in signs {
-        if is_stain(names, top, known, *sign) {
+        if is_stain(names, top, called(known, *sign).is_some(), *sign) {
             return true;
         }
     }
     false
 }
 
-fn is_stain(names: &Names, top: &Top, known: &NameMap, sign: Sign) -> bool
-    ensures { result ≡ spec.is_stain_in names.now top.now known.now sign }
+/// Whether a sign stains a body, where the function that it calls or hands on is known, or isn't.
+pub(crate) fn is_stain(names: &Names, top: &Top, is_known: bool, sign: Sign) -> bool
+    ensures { result ≡ stain.stains names.now top.now is_known sign }
 {
     match sign {
         Sign::Reads(Ref::Store(_)) | Sign::Sets(_) | Sign::Breaks => true,
         Sign::Reads(name) => top.is_variable(name),
-        Sign::Calls(name) => known.get(name).is_none() && !top.is_free_call(names, name),
-        Sign::Hands(name) => known.get(name).is_none(),
+        Sign::Calls(name) => !is_known && !top.is_free_call(names, name),
+        Sign::Hands(_) => !is_known,
     }
 }
 
@@ -156,7 +157,7 @@ fn note_calls(
 ) -> Result<(), NoMemory>
     requires within { All (λ k. k.1 < length callers.old.items) known.now }
     ensures size { length callers.new.items ≡ length callers.old.items }
-    ensures callers { OnOk result (AddsLinks callers.old.items (filter_map (spec_called known.now) signs.now) point callers.new.items) }
+    ensures callers { OnOk result (AddsLinks callers.old.items (filter_map (stain.called known.now) signs.now) point callers.new.items) }
 {
     for sign in signs {
         note_call(callers, known, *sign, point)?;
@@ -173,7 +174,7 @@ fn note_call(
 ) -> Result<(), NoMemory>
     requires within { All (λ k. k.1 < length callers.old.items) known.now }
     ensures size { length callers.new.items ≡ length callers.old.items }
-    ensures callers { OnOk result (AddsLinks callers.old.items (option_to_list (spec_called known.now sign)) point callers.new.items) }
+    ensures callers { OnOk result (AddsLinks callers.old.items (option_to_list (stain.called known.now sign)) point callers.new.items) }
 {
     match called(known, sign) {
         Some(of) => add_caller(callers, of, point),
@@ -192,7 +193,7 @@ fn add_caller(callers: &mut Vec<Items<u32>>, of: usize, point: u32) -> Result<()
 }
 
 fn called(known: &NameMap, sign: Sign) -> Option<usize>
-    ensures { result ≡ spec_called known.now sign }
+    ensures { result ≡ stain.called known.now sign }
 {
     match sign {
         Sign::Calls(name) | Sign::Hands(name) => known.get(name),

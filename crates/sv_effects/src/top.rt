@@ -21,7 +21,7 @@ pub(crate) struct Top {
 
 impl Top {
     pub(crate) fn new(alloc: Global, stmts: &[Stmt]) -> Result<Top, NoMemory>
-        ensures { IfOk result (λ top. spec.IsTop stmts.now top) }
+        ensures { IfOk result (λ top. top ≡ spec.top_of stmts.now) }
     {
         let mut declared = Distinct::new(alloc);
         declare_stmts(&mut declared, stmts)?;
@@ -34,14 +34,14 @@ impl Top {
 
     /// Whether a name is that of a variable: by `let` or `export let`, or by `$: x = e` alone.
     pub(crate) fn is_variable(&self, name: Ref) -> bool
-        ensures { result ≡ spec.is_variable_in self.now name }
+        ensures { result ≡ spec.is_variable self.now name }
     {
         self.variables.has(name) || self.reactives.has(name) && !self.declared.has(name)
     }
 
     /// Whether a name is `String` or `Boolean`, and isn't declared anew.
     pub(crate) fn is_free_call(&self, names: &Names, name: Ref) -> bool
-        ensures { result ≡ spec.is_free_in names.now self.now name }
+        ensures { result ≡ spec.is_free_call names.now self.now name }
     {
         is_conversion(names, name) && !self.declared.has(name) && !self.reactives.has(name)
     }

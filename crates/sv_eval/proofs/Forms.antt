@@ -1,6 +1,7 @@
 -- What expressions and statements of each form do, by what their parts do.
-use Rattle.std.proofs.Common.{◌≡◌, ℕ, [], ◌∷◌, ◌++◌, append_assoc, refl, sym, ap, ◌∙◌, List, map, Option, None}
+use Rattle.std.proofs.Common.{◌≡◌, ℕ, [], ◌∷◌, ◌++◌, append_assoc, refl, sym, ap, ◌∙◌, Bool, List, map, Option, None}
 use Rattle.std.proofs.lemmas.List.{append-nil, map-append}
+use Rattle.sv_ast.specs.declared.operators.AssignOp.{AssignOp}
 use Rattle.sv_ast.specs.declared.operators.Op.{Op}
 use Rattle.sv_ast.specs.declared.operators.Op.TheVariants.{Div}
 use Rattle.sv_base.specs.declared.names.Name.{Name}
@@ -14,6 +15,7 @@ use Rattle.sv_code.specs.declared.code.CodeKind.{CodeKind as AnyKind, CodeKind-F
 use Rattle.sv_code.specs.declared.functions.CodeStmt.{CodeStmt, fold_out-CodeStmt}
 use Rattle.sv_code.specs.declared.functions.CodeStmtKind
 use Rattle.sv_code.specs.declared.functions.CodeStmtKind.{CodeStmtKind as AnyStmt, CodeStmtKind-F, fold-roll-CodeStmtKind}
+use Rattle.sv_code.specs.declared.known.Known.{Known}
 use Rattle.sv_ops.specs.Answer.{list_made, object_made}
 use Rattle.sv_value.specs.Value.{Val}
 use Rattle.sv_world.specs.declared.world.World.{World}
@@ -21,7 +23,7 @@ use Rattle.sv_meaning.specs.Context.{ground_of, calls_of, expr_in, value_in, ite
 use Rattle.sv_meaning.specs.Env.{Env, opened}
 use Rattle.sv_meaning.specs.Outcome.{Meaning, Flow, and_then, doing, counted, answered}
 use Rattle.sv_meaning.specs.Statements.{Doing, Counts, Arm, done, scoped, in_order, stmt_kind_step, arm_step, stmt_step}
-use Rattle.sv_meaning.specs.Values.{Expr, Link, Ratio, Puts, plain, chain, dividing, last_division, parts_after, template_step, call_step, dispatcher_step, field_step, item_step, kind_step, code_step, link_step}
+use Rattle.sv_meaning.specs.Values.{Expr, Link, Ratio, Puts, plain, chain, dividing, last_division, parts_after, template_step, assign_step, bump_step, call_step, dispatcher_step, field_step, item_step, kind_step, code_step, link_step}
 use Rattle.sv_meaning.specs.declared.context.Context.{Context}
 
 -- an expression by its form, which takes a step
@@ -61,6 +63,18 @@ unfolding CodeKind.roll-CodeKind denote.Hole.Carrier.roll
 dispatcher_is c k n at args s i =
     ap (λ z. kind_in c z s) i
     ∙ ap (λ m. m s) (fold-roll-CodeKind (Puts (List ℕ × Val)) (Puts Val) (Span → Expr) Expr Link field_step item_step (kind_step (ground_of c) (calls_of c) c.owner.number) (code_step (ground_of c) (calls_of c) c.owner.number) link_step (CodeKind-F.Dispatcher n at args))
+
+pub assign_is : (c : Context) (k : AnyKind) (x : Known) (at : Span) (op : AssignOp) (e : Code) (s : Span) → k ≡ CodeKind.Assign x at op e → kind_in c k s ≡ plain s (assign_step op (ground_of c) (calls_of c) c.owner.number x at s (value_in c e))
+unfolding CodeKind.roll-CodeKind denote.Hole.Carrier.roll
+assign_is c k x at op e s i =
+    ap (λ z. kind_in c z s) i
+    ∙ ap (λ m. m s) (fold-roll-CodeKind (Puts (List ℕ × Val)) (Puts Val) (Span → Expr) Expr Link field_step item_step (kind_step (ground_of c) (calls_of c) c.owner.number) (code_step (ground_of c) (calls_of c) c.owner.number) link_step (CodeKind-F.Assign x at op e))
+
+pub bump_is : (c : Context) (k : AnyKind) (x : Known) (at : Span) (up prefix : Bool) (s : Span) → k ≡ CodeKind.Bump x at up prefix → kind_in c k s ≡ plain s (bump_step (ground_of c) (calls_of c) c.owner.number x at up prefix s)
+unfolding CodeKind.roll-CodeKind denote.Hole.Carrier.roll
+bump_is c k x at up prefix s i =
+    ap (λ z. kind_in c z s) i
+    ∙ ap (λ m. m s) (fold-roll-CodeKind (Puts (List ℕ × Val)) (Puts Val) (Span → Expr) Expr Link field_step item_step (kind_step (ground_of c) (calls_of c) c.owner.number) (code_step (ground_of c) (calls_of c) c.owner.number) link_step (CodeKind-F.Bump x at up prefix))
 
 -- a statement by its form
 pub run_is : (c : Context) (s : CodeStmt) → run_in c s ≡ done (doing_in c s.kind) s.span

@@ -3,3 +3,4 @@ pub mod Forms
 pub mod Measure
 pub mod Parts
 pub mod Steps
+pub mod Computing

@@ -20,7 +20,7 @@ use Rattle.sv_world.specs.declared.world.World.{World}
 use Rattle.sv_meaning.specs.Calls.{Caller, call_value, is_on_list, on_list}
 use Rattle.sv_meaning.specs.Counts.{Counts}
 use Rattle.sv_meaning.specs.Env.{Env}
-use Rattle.sv_meaning.specs.Functions.{Teller, caller, entered, env_of, returned}
+use Rattle.sv_meaning.specs.Functions.{Teller, Mode, caller, entered, env_of, returned}
 use Rattle.sv_meaning.specs.Gives.{Gives, EndsAs, flow_of}
 use Rattle.sv_meaning.specs.Outcome.{Ending, Ends, Fails, Outcome, Done, Failed, Meaning, Deed, Flow, Next, Continued, and_then, then_do, left, kept, doing, counted, counted_in, with_steps, answered}
 use Rattle.sv_meaning.specs.Sight.{Ground, ground_in, is_there}
@@ -89,8 +89,8 @@ divide_is t s at m ls n env env' env'' env''' w w' w'' w''' w'''' x a b c d e f 
 
 -- ---- calls of functions
 
-pub call_is : (tell : Teller) (g : Ground) (n m c o : ℕ) (held : Vals) (vs args : List Val) (s : Span) (w : World) (f : Function) → n ≡ suc m → is_there g.sight o w ≡ true → items held ≡ vs → slice_get g.program.functions c ≡ Some f → call_value (caller tell g n) s (function c o held) args w ≡ entered f.body tell (ground_in g c) (caller tell (ground_in g c) m) o (env_of f vs args) args s w
-call_is tell g n m c o held vs args s w f k t h e = ap (λ i. call_value (caller tell g i) s (function c o held) args w) k ∙ rw (t, e, h) refl
+pub call_is : (mode : Mode) (g : Ground) (n m c o : ℕ) (held : Vals) (vs args : List Val) (s : Span) (w : World) (f : Function) → n ≡ suc m → is_there g.sight o w ≡ true → items held ≡ vs → slice_get g.program.functions c ≡ Some f → call_value (caller mode g n) s (function c o held) args w ≡ entered f.body mode.tells (ground_in g c) (caller mode (ground_in g c) m) o (env_of f vs args) args s w
+call_is mode g n m c o held vs args s w f k t h e = ap (λ i. call_value (caller mode g i) s (function c o held) args w) k ∙ rw (t, e, h) refl
 
 pub block_is : (b : FunctionBody) (stmts : List CodeStmt) (tell : Teller) (g : Ground) (call : Caller) (o : ℕ) (env : Env) (args : List Val) (s : Span) (w : World) → b ≡ body.Block stmts → entered b tell g call o env args s w ≡ then_do (left (run_all g call o stmts env w)) (λ f. Ends (returned f))
 block_is b stmts tell g call o env args s w e = ap (λ z. entered z tell g call o env args s w) e

@@ -4,7 +4,7 @@ ghost use Rattle.sv_base.specs.declared.limits.TheConstants.{VALUE_SIZE_LIMIT};
 ghost use Rattle.sv_value.specs.Value.{items};
 ghost use Rattle.sv_value.specs.View.{view_of};
 ghost use Rattle.sv_meaning.specs.Calls as spec;
-ghost use Rattle.sv_meaning.specs.Context.{ground_of, calls_of, expr_in, tells};
+ghost use Rattle.sv_meaning.specs.Context.{ground_of, calls_of, expr_in, mode_of};
 ghost use Rattle.sv_meaning.specs.Functions.{entered, env_of};
 ghost use Rattle.sv_meaning.specs.Gives.{Gives, EndsAs};
 ghost use Rattle.sv_meaning.specs.Values.{call_step, callee_of, Plain, Converts, On, built_call, method_call, value_call, field_call, math_call, divided_or, ratio_or, divide, rounds};
@@ -13,16 +13,17 @@ ghost use Rattle.sv_code.specs.declared.known.BuiltIn.TheVariants as console;
 
 use crate::listeners::dispatch;
 use crate::lookups::{
-    Call, Quotient, Visit, built_of, has_owner, quotient_of, rounds_of, start_of,
+    Call, Quotient, Visit, built_of, has_method, has_owner, quotient_of, rounds_of, start_of,
 };
+use crate::settling::{make_derived, set_store};
 use crate::statements::run_all;
 use crate::values::{eval, eval_all, eval_links};
 use sv_base::Span;
 use sv_code::{BuiltIn, Code, CodeKind, Function, FunctionBody, Known, Method, Property};
 use sv_meaning::{
     Context, EvalError, Locals, answer, call_life, convert, count, fault, first, is_of_math,
-    is_on_list, is_on_store, is_on_text, log, make_store, of_math, on_list, on_text, open_body,
-    put_item, returned, set_store, store_value, takes_function,
+    is_on_list, is_on_text, log, make_store, of_math, on_list, on_text, open_body, put_item,
+    returned, store_value, takes_function,
 };
 use sv_ops::{FaultKind, Verdict, arguments, finish, judge, quotient};
 use sv_value::{List, Value};
@@ -86,6 +87,11 @@ fn call_name(
             count(world, call.of.span)?;
             let args = eval_all(context, world, locals, call.args)?;
             make_store(world, &args)
+        }
+        Known::Derived => {
+            count(world, call.of.span)?;
+            let args = eval_all(context, world, locals, call.args)?;
+            make_derived(context, world, &args, call.span)
         }
         Known::BuiltIn(BuiltIn::String) => call_conversion(
             context,
@@ -296,7 +302,7 @@ fn call_method(
             _ => call_of_value(context, world, locals, call, value, property),
         },
         Value::Store(id) => match property.method {
-            Some(method) if is_on_store(method) => {
+            Some(method) if has_method(world, *id, method) => {
                 let args = eval_all(context, world, locals, call.args)?;
                 call_on_store(context, world, method, *id, &args, call.span)
             }
@@ -435,14 +441,14 @@ fn call_on_store(
 {
     let value = first(args)?;
     if method == Method::Set {
-        return set_store(world, id, value);
+        return set_store(context, world, id, value, span);
     }
     if !matches!(value, Value::Func(_)) {
         return Err(fault(FaultKind::NotAFunction, span));
     }
     let old = store_value(world, id)?;
     let new = call_value(context, world, &value, &[old], span)?;
-    set_store(world, id, new)
+    set_store(context, world, id, new, span)
 }
 
 /// What a call of a value gives; `NotAFunction` exactly where it is none, `Dead` exactly where the owner of the function is gone, or else
@@ -495,7 +501,7 @@ fn call_function(
     args: &[Value],
     span: Span,
 ) -> Result<Value, EvalError>
-    ensures means { EndsAs view_of result world.new (entered function.now.body (tells (ground_of context.now)) (ground_of context.now) (calls_of context.now) context.now.owner.number (env_of function.now (map view_of held.now) (map view_of args.now)) (map view_of args.now) span world.old) }
+    ensures means { EndsAs view_of result world.new (entered function.now.body (mode_of (ground_of context.now)).tells (ground_of context.now) (calls_of context.now) context.now.owner.number (env_of function.now (map view_of held.now) (map view_of args.now)) (map view_of args.now) span world.old) }
     ensures fewer { world.new.turn.steps ≤ world.old.turn.steps }
 {
     match &function.body {

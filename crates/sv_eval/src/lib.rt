@@ -6,10 +6,12 @@ mod calls;
 mod listeners;
 mod literals;
 mod lookups;
+mod settling;
 mod statements;
 mod values;
 
 pub use calls::call_value;
 pub use listeners::{Dispatched, eval_part, tell};
+pub use settling::{set, settle};
 pub use statements::run;
 pub use values::{eval, eval_or};

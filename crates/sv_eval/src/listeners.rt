@@ -2,7 +2,7 @@
 ghost use Rattle.std.specs.Prelude.{◌≡◌, ◌≤◌, None, map, option_copied};
 ghost use Rattle.sv_value.specs.View.{view_of};
 ghost use Rattle.sv_meaning.specs.Calls as spec;
-ghost use Rattle.sv_meaning.specs.Context.{ground_of, calls_of, tells};
+ghost use Rattle.sv_meaning.specs.Context.{ground_of, calls_of, mode_of};
 ghost use Rattle.sv_meaning.specs.Functions as functions;
 ghost use Rattle.sv_meaning.specs.Gives.{EndsAs, Evaluates};
 ghost use Rattle.sv_meaning.specs.Listeners.{told, onward, heard_by, heard_attr, listener_view, heard_on, heard_value, handler_of};
@@ -39,7 +39,7 @@ pub(crate) fn dispatch(
     args: &[Value],
     span: Span,
 ) -> Result<Value, EvalError>
-    ensures means { EndsAs view_of result world.new (functions.dispatch (tells (ground_of context.now) (calls_of context.now) context.now.owner.number) span (spec.first (map view_of args.now)) (spec.second (map view_of args.now)) world.old) }
+    ensures means { EndsAs view_of result world.new (functions.dispatch ((mode_of (ground_of context.now)).tells (calls_of context.now) context.now.owner.number) span (spec.first (map view_of args.now)) (spec.second (map view_of args.now)) world.old) }
     ensures fewer { world.new.turn.steps ≤ world.old.turn.steps }
 {
     let Value::Text(name) = first(args)? else {
@@ -58,7 +58,7 @@ pub(crate) fn dispatch(
 // The listeners of the owner's own tag hear of an event; in a pure evaluation nobody does.
 #[cycle(eval)]
 fn hear(context: &Context, world: &mut World, event: Dispatched) -> Result<(), EvalError>
-    ensures means { EndsAs (λ u. u) result world.new (tells (ground_of context.now) (calls_of context.now) context.now.owner.number event.entry.name.now (view_of event.entry.object.now) world.old) }
+    ensures means { EndsAs (λ u. u) result world.new ((mode_of (ground_of context.now)).tells (calls_of context.now) context.now.owner.number event.entry.name.now (view_of event.entry.object.now) world.old) }
     ensures fewer { world.new.turn.steps ≤ world.old.turn.steps }
 {
     if context.sight.is_some() {
@@ -176,8 +176,8 @@ fn call_listener(
 {
     match listener {
         Value::Undefined | Value::Null => Ok(()),
-        Value::Func(function) => {
-            let at = source_of(context.program, function.code(), span);
+        Value::Func(_) => {
+            let at = source_of(context.program, listener, span);
             let answer = call_value(context, world, listener, &[object.share()?], at)?;
             drop(answer);
             Ok(())

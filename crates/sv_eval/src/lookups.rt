@@ -1,7 +1,8 @@
 // What is looked up in code before it runs.
-ghost use Rattle.std.specs.Prelude.{◌≡◌, IfOk, IfSome, map, option_map, option_copied};
+ghost use Rattle.std.specs.Prelude.{◌≡◌, ◌&&◌, not, if◌then◌else◌, IfOk, IfSome, map, option_map, option_copied};
+ghost use Rattle.sv_states.specs.States.{is_derived};
 ghost use Rattle.sv_value.specs.View.{view_of};
-ghost use Rattle.sv_meaning.specs.Calls.{start};
+ghost use Rattle.sv_meaning.specs.Calls.{start, is_on_store};
 ghost use Rattle.sv_meaning.specs.Listeners.{handler_of, is_named};
 ghost use Rattle.sv_meaning.specs.Context.{expr_in, doing_in};
 ghost use Rattle.sv_meaning.specs.Sight.{is_there};
@@ -15,7 +16,7 @@ use sv_base::{NoMemory, Span, Text};
 use sv_code::{
     BuiltIn, Code, CodeKind, CodeLink, CodeStmtKind, FragAttr, Handler, Known, Method, Program,
 };
-use sv_meaning::Context;
+use sv_meaning::{Context, is_on_store};
 use sv_value::{Inst, Value};
 use sv_world::World;
 
@@ -162,4 +163,18 @@ pub(crate) fn quotient_of(code: &Code) -> Option<Quotient<'_>>
         }),
         _ => None,
     }
+}
+
+/// Whether a store has a method; a derived one has none.
+pub(crate) fn has_method(world: &World, id: u32, method: Method) -> bool
+    ensures { result ≡ (is_on_store method && not (is_derived world.now.states id)) }
+{
+    is_on_store(method) && world.states.derived(id).is_none()
+}
+
+/// What a `++` or `--` gives: the new value where the operator stands in front, else the one before.
+pub(crate) fn bump_value(prefix: bool, new: Value, old: Value) -> Value
+    ensures { view_of result ≡ (if prefix then view_of new else view_of old) }
+{
+    if prefix { new } else { old }
 }

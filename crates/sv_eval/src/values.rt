@@ -2,14 +2,15 @@
 ghost use Rattle.std.specs.Prelude.{◌≡◌, ◌≤◌, map, option_copied};
 ghost use Rattle.sv_value.specs.View.{view_of};
 ghost use Rattle.sv_ops.specs.Operators.{stops};
-ghost use Rattle.sv_meaning.specs.Context.{ground_of, expr_in, value_in, kind_in, link_in, valued_in};
+ghost use Rattle.sv_meaning.specs.Context.{ground_of, calls_of, expr_in, value_in, kind_in, link_in, valued_in};
 ghost use Rattle.sv_meaning.specs.Gives.{Gives};
 ghost use Rattle.sv_meaning.specs.Statements.{value_or, tested};
 ghost use Rattle.sv_meaning.specs.Values.{all_values, all_texts, template_step, assign_step, bump_step, indexed, dispatcher_step, chained, linked};
 
 use crate::calls::eval_call;
 use crate::literals::{eval_fields, eval_items};
-use crate::lookups::{Assign, Bump, Call, MakeDispatcher};
+use crate::lookups::{Assign, Bump, Call, MakeDispatcher, bump_value};
+use crate::settling::set;
 use sv_ast::AssignOp;
 use sv_base::{Span, Text};
 use sv_code::{Code, CodeKind, CodeLink};
@@ -236,18 +237,18 @@ fn eval_assign(
     locals: &mut Locals,
     assign: Assign,
 ) -> Result<Value, EvalError>
-    ensures means { Gives view_of result locals.new world.new (assign_step assign.entry.op (ground_of context.now) context.now.owner.number assign.entry.target assign.entry.at assign.entry.span (value_in context.now assign.entry.value.now) locals.old world.old) }
+    ensures means { Gives view_of result locals.new world.new (assign_step assign.entry.op (ground_of context.now) (calls_of context.now) context.now.owner.number assign.entry.target assign.entry.at assign.entry.span (value_in context.now assign.entry.value.now) locals.old world.old) }
     ensures fewer { world.new.turn.steps ≤ world.old.turn.steps }
 {
     if matches!(assign.op, AssignOp::Set) {
         let value = eval(context, world, locals, assign.value)?;
-        return context.set(world, locals, assign.target, value, assign.at);
+        return set(context, world, locals, assign.target, value, assign.at);
     }
     let old = context.read(world, locals, assign.target, assign.at)?;
     let operand = eval(context, world, locals, assign.value)?;
     let made = assigned(context.alloc, assign.op, &old, operand);
     let new = answer(world, made, assign.span)?;
-    context.set(world, locals, assign.target, new, assign.at)
+    set(context, world, locals, assign.target, new, assign.at)
 }
 
 #[cycle(eval)]
@@ -329,20 +330,19 @@ fn eval_link(
     answer(world, binary(context.alloc, link.op, &value, right), span)
 }
 
-// ---- names that are bumped
-
+#[cycle(eval)]
 fn eval_bump(
     context: &Context,
     world: &mut World,
     locals: &mut Locals,
     bump: Bump,
 ) -> Result<Value, EvalError>
-    ensures means { Gives view_of result locals.new world.new (bump_step (ground_of context.now) context.now.owner.number bump.target bump.at bump.up bump.prefix bump.span locals.old world.old) }
+    ensures means { Gives view_of result locals.new world.new (bump_step (ground_of context.now) (calls_of context.now) context.now.owner.number bump.target bump.at bump.up bump.prefix bump.span locals.old world.old) }
     ensures fewer { world.new.turn.steps ≤ world.old.turn.steps }
 {
     let old = context.read(world, locals, bump.target, bump.at)?;
     let new = answer(world, bumped(bump.up, &old), bump.span)?;
-    let value = context.set(world, locals, bump.target, new.share()?, bump.at)?;
+    let value = set(context, world, locals, bump.target, new.share()?, bump.at)?;
     drop(value);
-    Ok(if bump.prefix { new } else { old })
+    Ok(bump_value(bump.prefix, new, old))
 }

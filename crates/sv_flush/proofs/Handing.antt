@@ -16,34 +16,33 @@ use Rattle.sv_code.specs.declared.fragments.LetName.{LetName}
 use Rattle.sv_code.specs.declared.parts.Part.{Part}
 use Rattle.sv_code.specs.declared.program.Program.{Program}
 use Rattle.sv_code.specs.declared.tags.Tag.{Tag}
-use Rattle.sv_meaning.specs.Components.{component_at}
 use Rattle.sv_meaning.specs.Parts.{part_value}
 use Rattle.sv_ops.specs.Answer.{Answer, Gives, Refuses, spelled}
 use Rattle.sv_ops.specs.Texts.{between}
 use Rattle.sv_ops.specs.declared.faults.Fault.{Fault}
 use Rattle.sv_ops.specs.declared.faults.FaultKind.{FaultKind}
 use Rattle.sv_ops.specs.declared.faults.FaultKind.TheVariants.{NotText, NotAList, BadKey}
-use Rattle.sv_parts.specs.Attributes.{texts_kept, shown_with, shown_anew, shown_step, class_anew, class_step, shown_joined, shown_parts, shown_value, attr_step, attrs_step}
-use Rattle.sv_parts.specs.Elements.{opening_anew, opening_kept, opening_by, opening_step}
+use Rattle.sv_parts.specs.Attributes.{texts_kept, shown_with, shown_step, class_step, shown_parts, shown_value, attr_step, attrs_step}
+use Rattle.sv_parts.specs.Elements.{opening_by, opening_step}
 use Rattle.sv_parts.specs.Parts.{faulted, valued, evaluated, given_text, text_of_part, renewed, text_step, marked, literal_step, show_step}
 use Rattle.sv_parts.specs.Sides.{Sides, moved}
 use Rattle.sv_parts.specs.State.{Outcome, Run, andThen, numbered, spent, emitted, remembered, destroyed, each, one}
-use Rattle.sv_parts.specs.Tags.{texts_at, passed_name, passed_value, offer_step, offers_step, create_step, new_tag, shows_content, view_for, set_step, keep_step, kept_tag, tag_by, tag_over, tag_step}
-use Rattle.sv_parts.specs.Values.{unvalued, passed, alone_step, part_text, part_texts, answered, is_due, joined, joined_anew, joined_step, bare, parts_step, value_step}
+use Rattle.sv_parts.specs.Tags.{texts_at, passed_name, passed_value, offers_step, create_step, view_for, set_step, keep_step, kept_tag, tag_by, tag_over}
+use Rattle.sv_parts.specs.Values.{unvalued, passed, alone_step, part_text, part_texts, answered, is_due, joined_anew, joined_step, bare, parts_step, value_step}
 use Rattle.sv_parts.specs.declared.refusal.Refusal.{Refusal}
 use Rattle.sv_parts.specs.declared.state.Effect.{Effect}
 use Rattle.sv_parts.specs.declared.state.Effect.TheVariants as effect
 use Rattle.sv_parts.specs.declared.state.Given.{Given}
 use Rattle.sv_parts.specs.declared.state.Kept.{Kept}
 use Rattle.sv_parts.specs.declared.state.State.{State}
-use Rattle.sv_plan.specs.Blocks.{any_moved, choose, chosen, is_arm, settled_anew, settled_with, settled_moved, settled}
+use Rattle.sv_plan.specs.Blocks.{any_moved, choose, chosen, is_arm, settled_with, settled}
 use Rattle.sv_plan.specs.Content.{Content, content_at}
-use Rattle.sv_plan.specs.Lists.{Head, with_index, row_view, key_or, row_key, entry_step, entries_step, keys_of, refuse, once, items_in, items_or, listing_of, enumerated, gone, listed_anew, list_step}
+use Rattle.sv_plan.specs.Lists.{Head, with_index, row_view, key_or, row_key, entries_step, refuse, once, items_in, items_or, listing_of, enumerated, gone, listed_anew, list_step}
 use Rattle.sv_plan.specs.Patch.{planned, old_view, old_parts}
-use Rattle.sv_plan.specs.Plan.{Planner, Walker, ArmPlan, Filled, plan_each, kept_step, element_step, if_step, key_step, row_step, rows_step, none_step, listed_step, each_step, content_step, slot_step, step, arm_step, body_at, head, planner, walker, slotted, plan_all}
+use Rattle.sv_plan.specs.Plan.{Planner, Walker, ArmPlan, Filled, plan_each, kept_step, if_step, row_step, none_step, listed_step, each_step, content_step, step, arm_step, body_at, head, planner, walker, slotted, plan_all}
 use Rattle.sv_plan.specs.Rows.{OldRow, old_row, row_sides}
 use Rattle.sv_plan.specs.Rows as rows
-use Rattle.sv_plan.specs.Slots.{prop_named, prop_anew, prop_by, texts_of, prop_step, props_of, props_step, let_by, with_lets, outer, content_view, content_sides}
+use Rattle.sv_plan.specs.Slots.{prop_named, prop_anew, prop_by, texts_of, props_of, props_step, let_by, with_lets, outer, content_view, content_sides}
 use Rattle.sv_plan.specs.declared.lists.Entry.{Entry}
 use Rattle.sv_plan.specs.declared.lists.Listing.{Listing}
 use Rattle.sv_shapes.specs.Places.{places_all}
@@ -61,9 +60,9 @@ use Rattle.sv_value.specs.Key.{key_of}
 use Rattle.sv_value.specs.Value.{Val, undefined}
 use Rattle.sv_value.specs.Words.{text_of}
 use Rattle.sv_value.specs.declared.key.Key.{Key}
-use Rattle.sv_view.specs.Level.{Level, View}
+use Rattle.sv_view.specs.Level.{View}
 use Rattle.sv_view.specs.Local.{Local}
-use Rattle.sv_view.specs.View.{with_locals, with_local, owner_of, view_from}
+use Rattle.sv_view.specs.View.{with_locals}
 
 -- the view that an effect hands down is such a one, if it hands down one
 abbrev pub HandsView : (View → Type 0) → Option View → Type 0

@@ -1,5 +1,5 @@
 -- What is known of views on a page.
-use Rattle.std.proofs.Common.{◌≡◌, ℕ, List, Option, Some, None, refl, sym, ap, subst, ◌∙◌, ⊎_elim, ◌⊎◌, inl, inr, unwrap_or, option_map, slice_get}
+use Rattle.std.proofs.Common.{◌≡◌, ℕ, List, Option, Some, None, refl, sym, ap, subst, ◌∙◌, ⊎_elim, inl, inr, unwrap_or, option_map, slice_get}
 use Rattle.std.proofs.lemmas.Option.{same_Some}
 use Rattle.sv_flush.proofs.Handing.{content_handed}
 use Rattle.sv_flush.proofs.Holding.{shown-found}
@@ -16,7 +16,6 @@ use Rattle.sv_instance.specs.declared.instance.Instance.{Instance}
 use Rattle.sv_states.specs.Sound.{IsSound, IsSeen}
 use Rattle.sv_states.specs.States.{live}
 use Rattle.sv_view.specs.Cell.{Cell}
-use Rattle.sv_view.specs.Level.{View}
 
 pub present_known : PresentIsKnown
 present_known m n i there k cells g =

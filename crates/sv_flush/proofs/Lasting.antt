@@ -11,10 +11,11 @@ use Rattle.sv_instance.specs.Standing.{Place}
 use Rattle.sv_instance.specs.declared.instance.Instance.{Instance}
 use Rattle.sv_shapes.specs.declared.shape.Shape.{Shape}
 use Rattle.sv_shapes.specs.declared.shown.Shown.{Shown}
-use Rattle.sv_states.specs.Assignment.{bound_up}
+use Rattle.sv_states.specs.Assignment.{handed_down, bound_up}
 use Rattle.sv_states.specs.Change.{added, removed, viewed}
 use Rattle.sv_states.specs.States.{States, live}
 use Rattle.sv_states.specs.Waiting.{snapped}
+use Rattle.sv_store.specs.Stores.{Subscriber}
 use Rattle.sv_value.specs.Value.{Val}
 use Rattle.sv_view.specs.Cell.{Cell}
 use Rattle.sv_view.specs.Level.{Level, View}
@@ -32,7 +33,7 @@ pub record Lasting (P : Option ℕ → List Level → List (ℕ × Shown) → St
   pub scripts : (but : Option ℕ) (due : List Level) (shown : List (ℕ × Shown)) → Stays (P but due shown)
   pub binds : (due : List Level) (shown : List (ℕ × Shown)) (s : States) (n : ℕ) (b : Bound) → P None due shown s → P None due shown (bound_up s n b)
   -- what is handed down
-  pub sets : (but : Option ℕ) (due : List Level) (shown : List (ℕ × Shown)) (s : States) (n : Option ℕ) → P but due shown s → P but due shown (record s { setting = n })
+  pub hands : (but : Option ℕ) (due : List Level) (shown : List (ℕ × Shown)) (s : States) (p : Subscriber) (v : Val) → P but due shown s → P but due shown (handed_down s p v)
   pub lends : (but : Option ℕ) (due : List Level) (shown : List (ℕ × Shown)) (s : States) (n c : ℕ) (view : View) → IsOf due view → P but due shown s → P but due shown (viewed s n c view)
   pub spends : (more due : List Level) (shown : List (ℕ × Shown)) (s : States) → P None (more ++ due) shown s → P None due shown s
   -- instances that are made, and that go

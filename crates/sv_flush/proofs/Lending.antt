@@ -1,5 +1,5 @@
 -- Levels of views that are held agree with what snapshots saw, whatever is done.
-use Rattle.std.proofs.Common.{◌≡◌, ℕ, ◌<◌, List, [], ◌∷◌, ◌++◌, length, map, Option, Some, None, option_map, Bool, true, false, refl, sym, ap, subst, ◌∙◌, ⊎_elim, ◌⊎◌, inl, inr, if◌then◌else◌}
+use Rattle.std.proofs.Common.{◌≡◌, ℕ, List, [], ◌∷◌, ◌++◌, map, Option, Some, None, option_map, Bool, true, false, refl, sym, ap, subst, ◌∙◌, ⊎_elim, ◌⊎◌, inl, inr, if◌then◌else◌}
 use Rattle.std.specs.BTreeMap.{is_at, insert_entry}
 use Rattle.std.specs.Map.{remove_entry}
 use Rattle.std.specs.Ordering.{nat_cmp}
@@ -10,12 +10,12 @@ use Rattle.sv_flush.proofs.Holding.{lent-set, lent-added, shown-left, shown-put}
 use Rattle.sv_flush.proofs.Lasting.{IsOf, Lasting}
 use Rattle.sv_flush.proofs.Past.{past_shown, same_now, present_past}
 use Rattle.sv_flush.proofs.Standing.{stands-back, stands-parts}
-use Rattle.sv_flush.proofs.Tracking.{GoesBy, goes_stays, goes-bound, goes-setting, picture_at, seen-snapped}
+use Rattle.sv_flush.proofs.Tracking.{GoesBy, goes_stays, goes-bound, goes-handed, picture_at, seen-snapped}
 use Rattle.sv_flush.specs.Lent.{StandsIn, IsShownOn, IsLent, StandsHeld, IsHeld, ArePast, LevelsAgree, HoldsPast}
 use Rattle.sv_flush.specs.declared.page.Page.{Page}
-use Rattle.sv_frame.proofs.Altering.{pictures, pictures-altered, pictures-viewed, plain_view, view_of, snapshots-viewed}
+use Rattle.sv_frame.proofs.Altering.{pictures-altered, pictures-viewed, plain_view, view_of, snapshots-viewed}
 use Rattle.sv_frame.proofs.Outcomes.{Stays}
-use Rattle.sv_frame.specs.Snapshots.{Snapshot, snapshot_of, snapshots}
+use Rattle.sv_frame.specs.Snapshots.{snapshot_of, snapshots}
 use Rattle.sv_frame.specs.Views.{lent_views}
 use Rattle.sv_instance.specs.Cells.{present}
 use Rattle.sv_instance.specs.declared.instance.Instance.{Instance}
@@ -206,7 +206,7 @@ pub lends_last : Lasting (λ but due. Lends due) Shot
 lends_last = record {
   scripts = λ but due shown. lends_stay due shown;
   binds = λ due shown s n b h. goes-bound (lends_go due shown) s n b h;
-  sets = λ but due shown s n h. goes-setting (lends_go due shown) s n h;
+  hands = λ but due shown s p v h. goes-handed (lends_go due shown) s p v h;
   lends = λ but due shown s n c view d h. lends-viewed due shown s n c view d h;
   spends = lends-fewer;
   makes = λ due shown s place cells constants h. lends-added due shown s _ (new-born place cells constants) refl h;

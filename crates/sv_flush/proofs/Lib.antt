@@ -1,11 +1,11 @@
 pub mod Steps
 pub mod Deeds
+pub mod Reversed
 pub mod Same
 pub mod Queue
 pub mod Entries
 pub mod Tags
 pub mod Creating
-pub mod Backwards
 pub mod Lookups
 pub mod Bringing
 pub mod Settling

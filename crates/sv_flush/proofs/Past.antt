@@ -1,5 +1,5 @@
 -- Cells that are no later than others.
-use Rattle.std.proofs.Common.{◌≡◌, ℕ, zero, suc, ◌≤◌, List, [], ◌∷◌, length, Option, Some, None, refl, sym, ap, subst, ◌∙◌, arith, slice_get}
+use Rattle.std.proofs.Common.{◌≡◌, ℕ, zero, suc, List, [], ◌∷◌, length, Option, Some, None, refl, sym, ap, ◌∙◌, arith, slice_get}
 use Rattle.sv_flush.specs.Lent.{ArePast, SameByCount}
 use Rattle.sv_frame.specs.Snapshots.{snapshot_of}
 use Rattle.sv_instance.specs.Cells.{cell_at, count_of, cell_or_new, present}

@@ -1,5 +1,6 @@
 -- What a flush does to a page keeps what lasts.
 use Rattle.std.proofs.Common.{◌≡◌, ℕ, zero, suc, Bool, true, false, List, [], ◌∷◌, ◌++◌, Option, Some, None, option_map, Ok, Err, refl, slice_get, if◌then◌else◌, nat_le}
+use Rattle.std.specs.Prelude.{reverse}
 use Rattle.sv_code.proofs.Each.{each_mono}
 use Rattle.sv_code.specs.Names.{Each}
 use Rattle.sv_code.specs.declared.program.Component.{Component}
@@ -10,22 +11,23 @@ use Rattle.sv_flush.proofs.Handing.{HandsView, Hands, Handed, planned-hands}
 use Rattle.sv_flush.proofs.Lasting.{IsOf, Lasting}
 use Rattle.sv_flush.proofs.Standing.{stands-front, of_pass, hands-mono}
 use Rattle.sv_flush.specs.Callbacks.{callbacks_of, nowhere, called_back, all_called_back, returned, mounted_by, all_mounted, called_if, unless, after}
-use Rattle.sv_flush.specs.Creation.{next, too_deep, snapshot, readied, after_waits, cell_count, Site, born_at, born_here, is_too_deep, made_of, made, mount_waits, started, passed, binds, placed, attached, site_of, grown, created, tag_task, child_set, effect_by, created_in, effects, root_site, mounted}
+use Rattle.sv_flush.specs.Creation.{next, too_deep, snapshot, readied, after_waits, cell_count, Site, born_at, born_here, is_too_deep, made_of, made, mount_waits, started, passed, binds, placed, attached, site_of, grown, tag_task, child_set, effect_by, created_in, effects, root_site, mounted}
 use Rattle.sv_flush.specs.Destruction.{gone, taken, child_task, destroyed_by, children_destroyed, destroyed}
-use Rattle.sv_flush.specs.Flush.{updated, bound_last_first, all_bound, rendered_one, round, flush_ended, flushed}
-use Rattle.sv_flush.specs.Outcome.{Outcome, Done, Halted, Step, Task, and_then, in_world, ended, scripted, work, work_if, each}
+use Rattle.sv_flush.specs.Flush.{updated, bound_at, bound, all_bound, rendered_one, round, flush_ended, flushed}
+use Rattle.sv_flush.specs.Outcome.{Outcome, Done, Halted, Task, and_then, in_world, ended, scripted, work, work_if, each}
 use Rattle.sv_flush.specs.Rounds.{Binding, Waiting, mounting, after_update, has_run, with_ran, waiting_callbacks}
-use Rattle.sv_flush.specs.Setting.{stays, prop_set, props_set, setting, set, lent_to, lent_if}
+use Rattle.sv_flush.specs.Setting.{stays, prop_set, set, lent_to, lent_if}
 use Rattle.sv_flush.specs.Showing.{tags_of, tag_shown, tag_kept, tags_kept, followed, patched_on, patched_now, shown}
 use Rattle.sv_flush.specs.declared.page.Page.{Page}
-use Rattle.sv_frame.proofs.Outcomes.{Stays, Leaves, Left, then_leaves, ends_leaves}
-use Rattle.sv_frame.proofs.Running.{modules_leave, top_leaves, reactive_leaves, called_leaves, in_turn_leaves}
+use Rattle.sv_frame.proofs.Outcomes.{Stays, Leaves, Left, if_left, then_leaves, ends_leaves}
+use Rattle.sv_frame.proofs.Running.{modules_leave, top_leaves, reactive_leaves, called_leaves, in_turn_leaves, settle_leaves}
 use Rattle.sv_instance.specs.Callbacks.{with_callback}
 use Rattle.sv_instance.specs.declared.callbacks.When.{When}
 use Rattle.sv_instance.specs.declared.callbacks.When.TheVariants.{Mount, Before, After, Destroy, Returned}
 use Rattle.sv_instance.specs.declared.instance.Instance.{Instance}
 use Rattle.sv_meaning.specs.Components.{component_at, component_of, markup_of}
 use Rattle.sv_meaning.specs.Outcome.{Ending, Ends, Fails, Deed}
+use Rattle.sv_ops.specs.declared.faults.FaultKind.TheVariants.{NoMember}
 use Rattle.sv_parts.specs.State.{Outcome as Planned}
 use Rattle.sv_parts.specs.declared.state.Effect.{Effect}
 use Rattle.sv_parts.specs.declared.state.Effect.TheVariants as effect
@@ -35,6 +37,7 @@ use Rattle.sv_plan.specs.Patch.{begun, ended as patch_ended, patched}
 use Rattle.sv_shapes.specs.Showing.{Showing, recorded as shown_on, shown_of, child_at}
 use Rattle.sv_shapes.specs.declared.shape.Shape.{Shape}
 use Rattle.sv_shapes.specs.declared.shown.Shown.{Shown}
+use Rattle.sv_states.specs.Assignment.{is_bound_to_fixed}
 use Rattle.sv_states.specs.Change.{place_below}
 use Rattle.sv_states.specs.States.{States, live}
 use Rattle.sv_states.specs.declared.states.TheConstants.{DEPTH_LIMIT}
@@ -115,13 +118,9 @@ module _ {P : Option ℕ → List Level → List (ℕ × Shown) → States → T
     if_lasts shown true x y h k = h
     if_lasts shown false x y h k = k
 
-    props_last : (shown : List (ℕ × Shown)) (n : ℕ) (props : List Given) (w : World) → P but due shown w.states → P but due shown (props_set n props w).states
-    props_last shown n [] w h = h
-    props_last shown n (g ∷ props) w h = props_last shown n props (prop_set n g w) (if_lasts shown (stays w n g) w _ h ((lasts.scripts but due shown).assigned w.states n g.cell g.value h))
-
     set_lasts : (shown : List (ℕ × Shown)) (n : ℕ) (props : List Given) (w : World) → P but due shown w.states → P but due shown (set n props w).states
-    set_lasts shown n props w h =
-        lasts.sets but due shown (props_set n props (setting (Some n) w)).states None (props_last shown n props (setting (Some n) w) (lasts.sets but due shown w.states (Some n) h))
+    set_lasts shown n [] w h = h
+    set_lasts shown n (g ∷ props) w h = set_lasts shown n props (prop_set n g w) (if_lasts shown (stays w n g) w _ h (lasts.hands but due shown w.states (record { inst = n; cell = g.cell }) g.value h))
 
     to_lasts : (shown : List (ℕ × Shown)) (c : Component) (cell : Option ℕ) (n : ℕ) (view : View) (w : World) → IsOf due view → P but due shown w.states → P but due shown (lent_to (Some (record c { view = cell })) n view w).states
     to_lasts shown c None n view w d h = h
@@ -320,9 +319,16 @@ module _ {P : Option ℕ → List Level → List (ℕ × Shown) → States → T
         brings_then work_brings (λ _. brings_then (weakened n (readied_brings n false)) (λ _. brings_then (shown_brings n (effects_bring DEPTH_LIMIT n)) (λ _.
         brings_then (changed_brings {Q = On None due} {R = On None due} (after_waits n) (λ m h. h)) (λ _. nothing_brings))))
 
-    bound_lasts : (shown : List (ℕ × Shown)) (bindings : List Binding) (s : States) → P None due shown s → P None due shown (bound_last_first bindings s)
-    bound_lasts shown [] s h = h
-    bound_lasts shown (b ∷ bindings) s h = lasts.binds due shown (bound_last_first bindings s) b.child b.bound (bound_lasts shown bindings s h)
+    at_leaves : (shown : List (ℕ × Shown)) (b : Binding) → Leaves (P None due shown) (bound_at b)
+    at_leaves shown b = record { held = λ w h. if_left (P None due shown) (is_bound_to_fixed w.states b.child b.bound) (Fails NoMember b.span w) _ h (lasts.binds due shown w.states b.child b.bound h) }
+
+    bound_leaves : (shown : List (ℕ × Shown)) (b : Binding) → Leaves (P None due shown) (bound p b)
+    bound_leaves shown b = then_leaves (at_leaves shown b) (λ u. settle_leaves (lasts.scripts None due shown) p)
+
+    all_bound_brings : Brings (On None due) (On None due) (all_bound p)
+    all_bound_brings = record {
+      held = λ m h. (scripted_brings (λ shown. in_turn_leaves (lasts.scripts None due shown) (bound p) (reverse m.rounds.bindings) (bound_leaves shown))).held (record m { rounds = record m.rounds { bindings = [] } }) h;
+    }
 
     rendered_brings : (one : Waiting) → Brings (On None due) (On None due) (rendered_one p one)
     rendered_brings (mounting n) = scripted_brings (λ shown. all_mounted_leave (lasts.scripts None due shown) p n)
@@ -331,7 +337,7 @@ module _ {P : Option ℕ → List Level → List (ℕ × Shown) → States → T
     round_brings : Brings (On None due) (On None due) (round p)
     unfolding round
     round_brings =
-        brings_then (only (settled_brings updated_brings)) (λ _. brings_then (changed_brings all_bound (λ m h. bound_lasts m.showing.shown m.rounds.bindings m.world.states h)) (λ _.
+        brings_then (only (settled_brings updated_brings)) (λ _. brings_then all_bound_brings (λ _.
         brings_then (record { held = λ m h. (each_brings m.rounds.render rendered_brings).held (record m { rounds = record m.rounds { render = [] } }) h }) (λ _. nothing_brings)))
 
     pub flushed_brings : Brings (On None due) (On None due) (flushed p)

@@ -24,6 +24,13 @@ ended_left m (Fails k s w) h = tt
 scripted_left : (deed : Deed (Unit {0})) → Brings NothingLeft NothingLeft (scripted deed)
 scripted_left deed = record { held = λ m h. ended_left m (deed m.world) h }
 
+ended_bound : (m : Page) (e : Ending (Unit {0})) → NothingBound m → Afterwards NothingBound (ended m e)
+ended_bound m (Ends a w) h = h
+ended_bound m (Fails k s w) h = tt
+
+all_bound_leaves : (p : Program) → Brings Any NothingBound (all_bound p)
+all_bound_leaves p = record { held = λ m h. ended_bound (record m { rounds = record m.rounds { bindings = [] } }) _ refl }
+
 rendered_left : (p : Program) (one : Waiting) → Brings NothingLeft NothingLeft (rendered_one p one)
 rendered_left p (mounting n) = scripted_left (all_mounted p n)
 rendered_left p (after_update n at) =
@@ -34,7 +41,7 @@ all_rendered p = record { held = λ m h. (each_brings m.rounds.render (rendered_
 
 round_leaves : (p : Program) → Brings Any NothingLeft (round p)
 unfolding round
-round_leaves p = brings_then (anything (until_settled (updated p))) (λ _. brings_then (changed_brings {Q = Any} {R = NothingBound} all_bound (λ m h. refl)) (λ _. brings_then (all_rendered p) (λ _. nothing_brings)))
+round_leaves p = brings_then (anything (until_settled (updated p))) (λ _. brings_then (all_bound_leaves p) (λ _. brings_then (all_rendered p) (λ _. nothing_brings)))
 
 weaker : {Q R : Page → Type 0} {t : Page → Outcome (Unit {0})} → Brings Any R t → Brings Q R t
 weaker k = record { held = λ m h. k.held m tt }

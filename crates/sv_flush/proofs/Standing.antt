@@ -1,5 +1,5 @@
 -- Levels of views, and the views that are made of them.
-use Rattle.std.proofs.Common.{◌≡◌, ℕ, List, [], ◌∷◌, ◌++◌, Option, unwrap_or, ⊎_elim, ◌⊎◌, inl, inr}
+use Rattle.std.proofs.Common.{ℕ, List, [], ◌∷◌, ◌++◌, Option, unwrap_or, ⊎_elim, ◌⊎◌, inl, inr}
 use Rattle.sv_flush.proofs.Handing.{HandsView, Hands, Passes}
 use Rattle.sv_flush.proofs.Lasting.{IsOf}
 use Rattle.sv_flush.specs.Lent.{StandsIn}

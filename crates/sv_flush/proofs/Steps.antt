@@ -80,7 +80,7 @@ mapped-ends f task all xs i page h le = left-ends task all (map f xs) i page h (
 
 -- ---- exits of loops
 
-at-any : {A : Type 0} (xs : List A) (i : ℕ) (d e : A) → i < length xs → get_or xs i d ≡ get_or xs i e
+pub at-any : {A : Type 0} (xs : List A) (i : ℕ) (d e : A) → i < length xs → get_or xs i d ≡ get_or xs i e
 at-any [] i d e lt = absurd (omega arith)
 at-any (x ∷ xs) zero d e lt = refl
 at-any (x ∷ xs) (suc i) d e lt = at-any xs i d e (omega arith)

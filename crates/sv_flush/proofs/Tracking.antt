@@ -10,7 +10,7 @@ use Rattle.sv_flush.proofs.Lasting.{Lasting}
 use Rattle.sv_flush.proofs.Recording.{Only, RecordsBut, records-weaker, records-added, records-gone, records-snapped, records-but, records-dead, records-shown}
 use Rattle.sv_flush.specs.Records.{Records, nobody}
 use Rattle.sv_flush.specs.declared.page.Page.{Page}
-use Rattle.sv_frame.proofs.Altering.{pictures, seen_stays, lent_stays, snapshots-viewed, snapshots-bound, views-bound}
+use Rattle.sv_frame.proofs.Altering.{pictures, seen_stays, lent_stays, snapshots-viewed, snapshots-bound, snapshots-handed, views-bound, views-handed}
 use Rattle.sv_frame.proofs.Outcomes.{Stays}
 use Rattle.sv_frame.specs.Snapshots.{snapshot_of, snapshots}
 use Rattle.sv_frame.specs.Views.{lent_views}
@@ -21,14 +21,16 @@ use Rattle.sv_numbered.specs.Numbered.{at}
 use Rattle.sv_shapes.specs.declared.shown.Shown.{Shown}
 use Rattle.sv_states.proofs.Altering.{at_within, at-altered_same, at-altered_none, altered-none, altered-some}
 use Rattle.sv_states.proofs.Keeping.{new-born}
-use Rattle.sv_states.proofs.Sounding.{sound-inert, sound-sent, sound-bound, sound-viewed, sound-declared, sound-store, sound-added, sound-subscribed, sound-snapped, sound-removed}
-use Rattle.sv_states.specs.Assignment.{way_of, bound_up}
+use Rattle.sv_states.proofs.Sounding.{sound-inert, sound-sent, sound-bound, sound-viewed, sound-declared, sound-taken, sound-store, sound-computed, sound-derived, sound-added, sound-subscribed, sound-snapped, sound-removed}
+use Rattle.sv_states.specs.Assignment.{way_of, handed_down, bound_up}
 use Rattle.sv_states.specs.Change.{added, removed, viewed}
 use Rattle.sv_states.specs.Prepared.{IsNew}
 use Rattle.sv_states.specs.Sound.{IsSound}
 use Rattle.sv_states.specs.States.{States, live}
 use Rattle.sv_states.specs.Waiting.{snapped}
 use Rattle.sv_states.specs.Waiting as waiting
+use Rattle.sv_store.specs.Stores.{Subscriber}
+use Rattle.sv_value.specs.Value.{Val}
 use Rattle.sv_view.specs.Level.{View}
 use Rattle.sv_world.specs.World.{present_view}
 
@@ -39,7 +41,9 @@ sound_stays = record {
   left = λ s f n h. sound-inert (λ i. record i { setup = f i.setup }) s n (λ i. refl) (λ i. refl) (λ i. refl) h;
   assigned = λ s n c v h. sound-sent s (way_of s n c) v h;
   store_set = λ s id v h. sound-sent s (record { cells = []; store = Some id }) v h;
+  computed = λ s id v h. sound-computed s id v h;
   with_store = λ s v h. sound-store s v h;
+  with_derived = λ s owner r v h. sound-derived s owner r v h;
   declared = λ s p v h. sound-declared s p v h;
   subscribed = λ s p id h. sound-subscribed s p id h;
 }
@@ -56,7 +60,9 @@ module _ {P : States → Type 0} (goes : GoesBy P) where
     left = λ s f n h. goes.on s _ h (sound_stays.left s f n (goes.sound s h)) ((seen_stays (snapshots s)).left s f n refl) ((lent_stays (lent_views s)).left s f n refl);
     assigned = λ s n c v h. goes.on s _ h (sound_stays.assigned s n c v (goes.sound s h)) ((seen_stays (snapshots s)).assigned s n c v refl) ((lent_stays (lent_views s)).assigned s n c v refl);
     store_set = λ s id v h. goes.on s _ h (sound_stays.store_set s id v (goes.sound s h)) ((seen_stays (snapshots s)).store_set s id v refl) ((lent_stays (lent_views s)).store_set s id v refl);
+    computed = λ s id v h. goes.on s _ h (sound_stays.computed s id v (goes.sound s h)) ((seen_stays (snapshots s)).computed s id v refl) ((lent_stays (lent_views s)).computed s id v refl);
     with_store = λ s v h. goes.on s _ h (sound_stays.with_store s v (goes.sound s h)) refl refl;
+    with_derived = λ s owner r v h. goes.on s _ h (sound_stays.with_derived s owner r v (goes.sound s h)) refl refl;
     declared = λ s p v h. goes.on s _ h (sound_stays.declared s p v (goes.sound s h)) ((seen_stays (snapshots s)).declared s p v refl) ((lent_stays (lent_views s)).declared s p v refl);
     subscribed = λ s p id h. goes.on s _ h (sound_stays.subscribed s p id (goes.sound s h)) ((seen_stays (snapshots s)).subscribed s p id refl) ((lent_stays (lent_views s)).subscribed s p id refl);
   }
@@ -65,10 +71,8 @@ module _ {P : States → Type 0} (goes : GoesBy P) where
   pub goes-bound : (s : States) (n : ℕ) (b : Bound) → P s → P (bound_up s n b)
   goes-bound s n b h = goes.on s _ h (sound-bound s n b (goes.sound s h)) (snapshots-bound s n b) (views-bound s n b)
 
-  pub goes-setting : (s : States) (n : Option ℕ) → P s → P (record s { setting = n })
-  goes-setting s n h =
-      let k = goes.sound s h in
-      goes.on s _ h (record { seen = k.seen; queued = k.queued; shown = k.shown; dirty = k.dirty; due = k.due; subscribed = k.subscribed }) refl refl
+  pub goes-handed : (s : States) (p : Subscriber) (v : Val) → P s → P (handed_down s p v)
+  goes-handed s p v h = goes.on s _ h (sound-taken s p v (goes.sound s h)) (snapshots-handed s p v) (views-handed s p v)
 
 -- ---- records
 
@@ -150,7 +154,7 @@ pub tracks_last : Lasting (λ but due. Tracks (left_out but)) (λ n due. Shot n)
 tracks_last = record {
   scripts = λ but due shown. tracks_stay shown;
   binds = λ due shown s n b h. goes-bound (tracks_go shown) s n b h;
-  sets = λ but due shown s n h. goes-setting (tracks_go shown) s n h;
+  hands = λ but due shown s p v h. goes-handed (tracks_go shown) s p v h;
   lends = λ but due shown s n c view d h. tracks-viewed shown s n c view h;
   spends = λ more due shown s h. h;
   makes = λ due shown s place cells constants h. tracks-added shown s _ (new-born place cells constants) h;

@@ -120,13 +120,13 @@ abbrev pub prop_cell : List Prop → Name → Option ℕ
 prop_cell [] name = None
 prop_cell (prop ∷ props) name = if nat_eq prop.name.0 name.0 then Some prop.cell else prop_cell props name
 
-abbrev pub binding_from : (child owner : ℕ) → Option ℕ → Option Known → Option Binding
-binding_from child owner (Some cell) (Some (known.Cell target)) = Some (record { child = child; bound = record { cell = cell; owner = owner; target = target } })
-binding_from child owner _ _ = None
+abbrev pub binding_from : (child owner : ℕ) → Span → Option ℕ → Option Known → Option Binding
+binding_from child owner span (Some cell) (Some (known.Cell target)) = Some (record { child = child; bound = record { cell = cell; owner = owner; target = target }; span = span })
+binding_from child owner span _ _ = None
 
 -- the binding of a prop to a variable of the owner
 abbrev pub binding_of : (child owner : ℕ) → List Prop → FragAttr → Option Binding
-binding_of child owner props (attr.Bind span name target) = binding_from child owner (prop_cell props name) (variable_of target.code)
+binding_of child owner props (attr.Bind span name target) = binding_from child owner span (prop_cell props name) (variable_of target.code)
 binding_of child owner props _ = None
 
 abbrev pub bindings_of : (child owner : ℕ) → Option Component → Tag → List Binding

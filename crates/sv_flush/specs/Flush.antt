@@ -1,5 +1,5 @@
 -- Updates, and rounds until nobody waits.
-use Rattle.std.specs.Prelude.{ℕ, zero, suc, false, List, [], ◌∷◌}
+use Rattle.std.specs.Prelude.{ℕ, zero, suc, false, List, [], ◌∷◌, reverse, if◌then◌else◌}
 use Rattle.sv_code.specs.declared.program.Program.{Program}
 use Rattle.sv_flush.specs.Callbacks.{all_mounted, after}
 use Rattle.sv_flush.specs.Creation.{readied, after_waits, effects}
@@ -7,9 +7,11 @@ use Rattle.sv_flush.specs.Outcome.{Outcome, Done, Halted, Task, and_then, in_tur
 use Rattle.sv_flush.specs.Rounds.{Binding, Waiting, mounting, after_update}
 use Rattle.sv_flush.specs.Showing.{shown}
 use Rattle.sv_flush.specs.declared.page.Page.{Page}
+use Rattle.sv_meaning.specs.Outcome.{Ends, Fails, Deed, then_do}
+use Rattle.sv_meaning.specs.Runs.{each_in_turn, settle}
+use Rattle.sv_ops.specs.declared.faults.FaultKind.TheVariants.{NoMember}
 use Rattle.sv_parts.specs.declared.refusal.Refusal.TheVariants.{Budget}
-use Rattle.sv_states.specs.Assignment.{bound_up}
-use Rattle.sv_states.specs.States.{States}
+use Rattle.sv_states.specs.Assignment.{bound_up, is_bound_to_fixed}
 use Rattle.sv_states.specs.declared.states.TheConstants.{DEPTH_LIMIT}
 
 -- an instance is readied and shown, which takes a unit of work; then its afterUpdate callbacks wait
@@ -31,13 +33,17 @@ until_settled task m = while_queued m.counters.work task m
 
 -- ---- a round
 
--- the binding callbacks, the last first
-abbrev pub bound_last_first : List Binding → States → States
-bound_last_first [] s = s
-bound_last_first (b ∷ bindings) s = bound_up (bound_last_first bindings s) b.child b.bound
+-- a prop is bound to a variable of the owner, unless that would set a derived store
+abbrev pub bound_at : Binding → Deed (Unit {0})
+bound_at b w = if is_bound_to_fixed w.states b.child b.bound then Fails NoMember b.span w else Ends tt (record w { states = bound_up w.states b.child b.bound })
 
-abbrev pub all_bound : Page → Page
-all_bound m = record m { world = record m.world { states = bound_last_first m.rounds.bindings m.world.states }; rounds = record m.rounds { bindings = [] } }
+-- the same, after which derived stores settle
+abbrev pub bound : Program → Binding → Deed (Unit {0})
+bound p b w = then_do (bound_at b w) (λ u. settle p)
+
+-- the binding callbacks, the last first
+abbrev pub all_bound : Program → Task
+all_bound p m = scripted (each_in_turn (bound p) (reverse m.rounds.bindings)) (record m { rounds = record m.rounds { bindings = [] } })
 
 abbrev pub rendered_one : Program → Waiting → Task
 rendered_one p (mounting n) = scripted (all_mounted p n)
@@ -49,7 +55,7 @@ rendered p m = each (rendered_one p) m.rounds.render (record m { rounds = record
 
 -- those who wait are updated in order, those who join them meanwhile among them; then come the binding callbacks, and then the render queue
 unfoldable pub round : Program → Task
-round p = in_turn (until_settled (updated p) ∷ changed all_bound ∷ rendered p ∷ [])
+round p = in_turn (until_settled (updated p) ∷ all_bound p ∷ rendered p ∷ [])
 
 -- ---- a flush
 

@@ -2,15 +2,19 @@
 use Rattle.std.specs.Prelude.{◌≡◌, ℕ, Bool, not, ◌&&◌, nat_eq, if◌then◌else◌, List, [], ◌∷◌, ◌++◌, Option, Some, None, refl}
 use Rattle.std.specs.List.{filter, list_any, filter_map}
 use Rattle.std.specs.Coded.{Coded, code_by, coded×, coded_ℕ, coded_list, coded_option}
+use Rattle.sv_base.specs.declared.span.Span.{Span}
+use Rattle.sv_derived.specs.Derived.{span_code}
 use Rattle.sv_instance.specs.Bound.{Bound, bound_code}
 
--- a binding callback: the child's number, and what its prop is to be bound to
+-- a binding callback: the child's number, what its prop is to be bound to, and the place of its directive
 pub record Binding : Type 0 where
   pub child : ℕ
   pub bound : Bound
+  pub span : Span
 
 abbrev pub binding_code : Coded Binding
-binding_code = code_by (ℕ × Bound) (coded× coded_ℕ bound_code) (λ b. (b.child, b.bound)) (λ p. record { child = p.0; bound = p.1 }) (λ _. refl)
+binding_code =
+    code_by (ℕ × (Bound × Span)) (coded× coded_ℕ (coded× bound_code span_code)) (λ b. (b.child, (b.bound, b.span))) (λ p. record { child = p.0; bound = p.1.0; span = p.1.1 }) (λ _. refl)
 
 -- the mount callbacks of an instance, or one of its afterUpdate callbacks by its place
 pub data Waiting : Type 0 where

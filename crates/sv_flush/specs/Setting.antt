@@ -5,7 +5,7 @@ use Rattle.sv_code.specs.declared.program.Program.{Program}
 use Rattle.sv_flush.specs.Same.{same}
 use Rattle.sv_meaning.specs.Components.{component_of}
 use Rattle.sv_parts.specs.declared.state.Given.{Given}
-use Rattle.sv_states.specs.Assignment.{assigned}
+use Rattle.sv_states.specs.Assignment.{handed_down}
 use Rattle.sv_states.specs.Change.{viewed}
 use Rattle.sv_states.specs.States.{live, value_in}
 use Rattle.sv_value.specs.Value.{Val}
@@ -21,18 +21,12 @@ abbrev pub stays : World → ℕ → Given → Bool
 stays w n g = g.bound && same_there (value_in (live w.states n) g.cell) g.value
 
 abbrev pub prop_set : ℕ → Given → World → World
-prop_set n g w = if stays w n g then w else record w { states = assigned w.states n g.cell g.value }
+prop_set n g w = if stays w n g then w else record w { states = handed_down w.states (record { inst = n; cell = g.cell }) g.value }
 
-abbrev pub props_set : ℕ → List Given → World → World
-props_set n [] w = w
-props_set n (g ∷ props) w = props_set n props (prop_set n g w)
-
-abbrev pub setting : Option ℕ → World → World
-setting n w = record w { states = record w.states { setting = n } }
-
--- the props are set in order; meanwhile the bound ones hand nothing up
+-- the props are set in order
 abbrev pub set : ℕ → List Given → World → World
-set n props w = setting None (props_set n props (setting (Some n) w))
+set n [] w = w
+set n (g ∷ props) w = set n props (prop_set n g w)
 
 abbrev pub lent_to : Option Component → ℕ → View → World → World
 lent_to None n view w = w

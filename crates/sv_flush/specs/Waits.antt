@@ -7,7 +7,7 @@ use Rattle.sv_flush.specs.declared.waiting.Waiting.{Waiting}
 use Rattle.sv_flush.specs.declared.waiting.Waiting.TheVariants.{Mounting, AfterUpdate}
 
 abbrev pub binding_of : Binding → seen.Binding
-binding_of b = record { child = b.child.number; bound = bound_of b.bound }
+binding_of b = record { child = b.child.number; bound = bound_of b.bound; span = b.span }
 
 abbrev pub waiting_of : Waiting → seen.Waiting
 waiting_of (Mounting i) = seen.mounting i.number

@@ -7,19 +7,16 @@ ghost use Rattle.sv_flush.specs.Meets.{Meets};
 ghost use Rattle.sv_flush.specs.Outcome.{each};
 ghost use Rattle.sv_flush.specs.Records.{RecordsSeen, ShowsPresent};
 ghost use Rattle.sv_flush.specs.Settled.{IsSettled};
-ghost use Rattle.sv_flush.specs.Waits.{binding_of, waiting_of};
+ghost use Rattle.sv_flush.specs.Waits.{waiting_of};
 
 use crate::create::Handed;
 use crate::machine::{Machine, told, work};
 use crate::page::Page;
 use crate::site::root_site;
-use crate::waiting::{Binding, Waiting};
-use std::alloc::Global;
-use sv_base::NoMemory;
-use sv_code::Program;
+use crate::waiting::Waiting;
 use sv_parts::{PatchError, Refusal};
 use sv_scripts::run_modules;
-use sv_states::{DEPTH_LIMIT, States};
+use sv_states::DEPTH_LIMIT;
 use sv_value::Inst;
 
 impl Machine<'_> {
@@ -108,7 +105,7 @@ impl Machine<'_> {
         ensures { Meets result page.new (spec.round self.now.program.now page.old) }
     {
         self.update_all(page)?;
-        bind_all(page)?;
+        self.bind_all(page)?;
         self.render(page)
     }
 
@@ -149,21 +146,4 @@ impl Machine<'_> {
         }
         Ok(())
     }
-}
-
-// Runs the binding callbacks, the last first.
-fn bind_all(page: &mut Page) -> Result<(), NoMemory>
-    ensures { OnOk result (page.new ≡ spec.all_bound page.old) }
-{
-    let bindings = page.rounds.take_bindings();
-    bind_each(&mut page.world.states, bindings)
-}
-
-fn bind_each(states: &mut States, mut bindings: Vec<Binding>) -> Result<(), NoMemory>
-    ensures { OnOk result (states.new ≡ spec.bound_last_first (map binding_of bindings.items) states.old) }
-{
-    while let Some(binding) = bindings.pop() {
-        states.bind_up(binding.child, binding.bound)?;
-    }
-    Ok(())
 }

@@ -2,6 +2,7 @@
 //! rounds until nobody waits for an update.
 #![tactic(auto)]
 
+mod bind;
 mod callbacks;
 mod create;
 mod destroy;

@@ -1,5 +1,5 @@
 // What a flush still has to do.
-ghost use Rattle.std.specs.Prelude.{◌≡◌, ◌++◌, ◌∷◌, [], ℕ, map, option_map, not, if◌then◌else◌, IfOk, OnOk, OnErr, slice_get};
+ghost use Rattle.std.specs.Prelude.{◌≡◌, ◌++◌, ◌∷◌, [], ℕ, map, option_map, not, if◌then◌else◌, reverse, IfOk, OnOk, OnErr, slice_get};
 ghost use Rattle.std.specs.List.{filter, list_any};
 ghost use Rattle.sv_flush.specs.Rounds.{no_rounds, with_binding, with_waiting, same_ran, has_run, with_ran, callback_of, waiting_callbacks, is_no_binding_of, is_of_other, forgotten};
 ghost use Rattle.sv_flush.specs.Waits.{binding_of, waiting_of, ran_of};
@@ -63,12 +63,14 @@ impl Rounds {
         Ok(())
     }
 
-    /// Takes all binding callbacks, the last pushed last.
+    /// Takes all binding callbacks, the last pushed first.
     pub fn take_bindings(&mut self) -> Vec<Binding>
-        ensures taken { map binding_of result.items ≡ self.old.bindings }
+        ensures taken { map binding_of result.items ≡ reverse self.old.bindings }
         ensures left { self.new ≡ record self.old { bindings = [] } }
     {
-        mem::replace(&mut self.bindings, Vec::new(self.alloc))
+        let mut bindings = mem::replace(&mut self.bindings, Vec::new(self.alloc));
+        bindings.reverse();
+        bindings
     }
 
     /// Puts an entry at the end of the render queue.

@@ -14,18 +14,9 @@ use sv_value::{Inst, Value, same};
 use sv_view::View;
 use sv_world::World;
 
-/// Sets props of an instance in order; meanwhile the bound ones hand nothing up. A bound prop that has the value already isn't set.
+/// Sets props of an instance in order, and hands nothing up. A bound prop that has the value already isn't set.
 pub fn set(world: &mut World, inst: Inst, props: &[Given]) -> Result<(), NoMemory>
     ensures { OnOk result (world.new ≡ spec.set inst.number props.now world.old) }
-{
-    world.states.begin_setting(inst);
-    set_each(world, inst, props)?;
-    world.states.end_setting();
-    Ok(())
-}
-
-fn set_each(world: &mut World, inst: Inst, props: &[Given]) -> Result<(), NoMemory>
-    ensures { OnOk result (world.new ≡ spec.props_set inst.number props.now world.old) }
 {
     for prop in props {
         set_one(world, inst, prop)?;
@@ -40,7 +31,11 @@ fn set_one(world: &mut World, inst: Inst, prop: &Given) -> Result<(), NoMemory>
         return Ok(());
     }
     let value = prop.value.get().share()?;
-    world.assign(inst, prop.cell, value)
+    let at = Sub {
+        inst,
+        cell: prop.cell,
+    };
+    world.states.hand_down(at, value)
 }
 
 // Whether a bound prop has the value already.

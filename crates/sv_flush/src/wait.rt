@@ -83,7 +83,7 @@ fn push_bindings(
 fn binding_of(ends: Ends, props: &[Prop], attr: &FragAttr) -> Option<Binding>
     ensures { option_map binding_seen result ≡ spec.binding_of ends.child.number ends.owner.number props.now attr.now }
 {
-    let FragAttr::Bind { name, target, .. } = attr else {
+    let FragAttr::Bind { span, name, target } = attr else {
         return None;
     };
     let cell = prop_cell(props, *name)?;
@@ -97,6 +97,7 @@ fn binding_of(ends: Ends, props: &[Prop], attr: &FragAttr) -> Option<Binding>
             owner: ends.owner,
             target: variable,
         },
+        span: *span,
     })
 }
 

@@ -3,6 +3,7 @@ use Rattle.std.proofs.Common.{◌≡◌, ℕ, Bool, true, false, List, [], ◌�
 use Rattle.std.specs.Prelude.{not, ◌&&◌, slice_set}
 use Rattle.std.proofs.Math.Seq.{map-set_same}
 use Rattle.std.proofs.lemmas.List.{length-set}
+use Rattle.sv_derived.specs.Derived.{marked, done}
 use Rattle.sv_frame.proofs.Outcomes.{Stays}
 use Rattle.sv_frame.specs.Snapshots.{Snapshot, snapshot_of, snapshots}
 use Rattle.sv_frame.specs.Views.{lent_views}
@@ -10,7 +11,7 @@ use Rattle.sv_instance.specs.declared.instance.Instance.{Instance}
 use Rattle.sv_instance.specs.declared.setup.Setup.{Setup}
 use Rattle.sv_instance.specs.declared.subscriptions.Subscription.{Subscription}
 use Rattle.sv_numbered.specs.Numbered.{at, altered, altered_over}
-use Rattle.sv_states.specs.Assignment.{Way, changes_in, cell_stored, handing, taken, told, store_set, end_set, written, sent_if, assigned, way_of, with_bound, bound_up}
+use Rattle.sv_states.specs.Assignment.{Way, changes_in, cell_stored, handing, taken, told, store_set, computed, end_set, written, sent_if, assigned, way_of, handed_down, with_bound, bound_up}
 use Rattle.sv_states.specs.Change.{declared, with_view, viewed, given, with_subscription, subscribed_over, subscribed_to}
 use Rattle.sv_states.specs.States.{States, live, with_instance, has_cell, value_in}
 use Rattle.sv_states.specs.Waiting.{joins, queued, enqueued}
@@ -68,7 +69,10 @@ module _ {X : Type 0} {g : Instance → X} (plain : Plain g) where
   told_same (p ∷ ps) v s = told_same ps v (taken s p v) ∙ taken_same s p v
 
   set_same : (s : States) (id : ℕ) (v : Val) → seen (store_set s id v) ≡ seen s
-  set_same s id v = if_same seen (differs_at s.stores id v) _ s (seen s) (told_same (subscribers_at s.stores id) v (record s { stores = with_value s.stores id v })) refl
+  set_same s id v = if_same seen (differs_at s.stores id v) _ s (seen s) (told_same (subscribers_at s.stores id) v (record s { stores = with_value s.stores id v; derived = marked s.derived id })) refl
+
+  computed_same : (s : States) (id : ℕ) (v : Val) → seen (computed s id v) ≡ seen s
+  computed_same s id v = set_same (record s { derived = done s.derived id }) id v
 
   end_same : (store : Option ℕ) (v : Val) (s : States) → seen (end_set store v s) ≡ seen s
   end_same None v s = refl
@@ -114,7 +118,9 @@ module _ {X : Type 0} {g : Instance → X} (plain : Plain g) where
     left = λ s f n h. pictures-altered g (λ i. record i { setup = f i.setup }) s.lives n (λ i. plain.setup i (f i.setup)) ∙ h;
     assigned = λ s n c v h. assigned_same s n c v ∙ h;
     store_set = λ s id v h. set_same s id v ∙ h;
+    computed = λ s id v h. computed_same s id v ∙ h;
     with_store = λ s v h. h;
+    with_derived = λ s owner r v h. h;
     declared = λ s p v h. declared_same s p v ∙ h;
     subscribed = λ s p id h. subscribed_same s p id ∙ h;
   }
@@ -130,6 +136,9 @@ plain_snapshot = record { setup = λ i u. refl; waits = λ i. refl; subscribed =
 
 pub snapshots-bound : (s : States) (n : ℕ) (b : Bound) → snapshots (bound_up s n b) ≡ snapshots s
 snapshots-bound s n b = pictures-bound plain_snapshot s n b
+
+pub snapshots-handed : (s : States) (p : Subscriber) (v : Val) → snapshots (handed_down s p v) ≡ snapshots s
+snapshots-handed s p v = taken_same plain_snapshot s p v
 
 pub snapshots-viewed : (s : States) (n c : ℕ) (view : View) → snapshots (viewed s n c view) ≡ snapshots s
 snapshots-viewed s n c view = by (has_cell (live s n) c) refl where
@@ -147,6 +156,9 @@ plain_view = record { setup = λ i u. refl; waits = λ i. refl; subscribed = λ 
 
 pub views-bound : (s : States) (n : ℕ) (b : Bound) → lent_views (bound_up s n b) ≡ lent_views s
 views-bound s n b = pictures-bound plain_view s n b
+
+pub views-handed : (s : States) (p : Subscriber) (v : Val) → lent_views (handed_down s p v) ≡ lent_views s
+views-handed s p v = taken_same plain_view s p v
 
 -- the snapshots are these
 abbrev pub Seen : List (Option Snapshot) → States → Type 0

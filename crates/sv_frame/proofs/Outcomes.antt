@@ -1,6 +1,7 @@
 -- What is true of the states and stays so, whatever is done one after another.
 use Rattle.std.proofs.Common.{ℕ, zero, suc, Bool, true, false, Option, Some, None, if◌then◌else◌}
 use Rattle.sv_base.specs.declared.span.Span.{Span}
+use Rattle.sv_derived.specs.Derived.{Recipe}
 use Rattle.sv_instance.specs.declared.setup.Setup.{Setup}
 use Rattle.sv_meaning.specs.Env.{Env}
 use Rattle.sv_meaning.specs.Outcome.{Ending, Ends, Fails, Outcome, Done, Failed, Meaning, Deed, and_then, then_do, kept, doing, left, given, either, with_steps, less_by, spent_in, spent, counted_in, counted, answered}
@@ -18,7 +19,9 @@ pub record Stays (P : States → Type 0) : Type 0 where
   pub left : (s : States) (f : Setup → Setup) (n : ℕ) → P s → P (with_instance (λ i. record i { setup = f i.setup }) s n)
   pub assigned : (s : States) (n c : ℕ) (v : Val) → P s → P (states.assigned s n c v)
   pub store_set : (s : States) (id : ℕ) (v : Val) → P s → P (states.store_set s id v)
+  pub computed : (s : States) (id : ℕ) (v : Val) → P s → P (states.computed s id v)
   pub with_store : (s : States) (v : Val) → P s → P (states_change.with_store s v)
+  pub with_derived : (s : States) (owner : ℕ) (r : Recipe) (v : Val) → P s → P (states_change.with_derived s owner r v)
   pub declared : (s : States) (p : Subscriber) (v : Val) → P s → P (states_change.declared s p v)
   pub subscribed : (s : States) (p : Subscriber) (id : ℕ) → P s → P (states_change.subscribed_to s p id)
 
@@ -27,7 +30,9 @@ both_stay h k = record {
   left = λ s f n x. (h.left s f n x.0, k.left s f n x.1);
   assigned = λ s n c v x. (h.assigned s n c v x.0, k.assigned s n c v x.1);
   store_set = λ s id v x. (h.store_set s id v x.0, k.store_set s id v x.1);
+  computed = λ s id v x. (h.computed s id v x.0, k.computed s id v x.1);
   with_store = λ s v x. (h.with_store s v x.0, k.with_store s v x.1);
+  with_derived = λ s owner r v x. (h.with_derived s owner r v x.0, k.with_derived s owner r v x.1);
   declared = λ s p v x. (h.declared s p v x.0, k.declared s p v x.1);
   subscribed = λ s p id x. (h.subscribed s p id x.0, k.subscribed s p id x.1);
 }

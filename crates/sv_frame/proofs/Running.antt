@@ -20,18 +20,21 @@ use Rattle.sv_code.specs.declared.program.ProgramFile.{ProgramFile}
 use Rattle.sv_code.specs.declared.program.Run.{Run}
 use Rattle.sv_code.specs.declared.program.StoreCell.{StoreCell}
 use Rattle.sv_code.specs.declared.tags.Handler.{Handler}
+use Rattle.sv_derived.specs.Derived.{Recipe}
 use Rattle.sv_frame.proofs.Outcomes.{Stays, Keeps, Leaves, Left, then_left, then_keeps, done_keeps, counted_keeps, then_leaves, ends_leaves, fails_leaves, given_leaves, answered_leaves, left_leaves}
 use Rattle.sv_frame.proofs.Statements.{value_or_keeps, constant_stays, subscribe_leaves, declare_keeps, in_order_keeps, valued_keeps, run_keeps, runs_keep}
-use Rattle.sv_frame.proofs.Values.{Each, CallerKeeps, value_leaves, make_leaves, expr_keeps}
-use Rattle.sv_meaning.specs.Calls.{Caller, first, second}
+use Rattle.sv_frame.proofs.Values.{Each, DerivesKeep, CallerKeeps, settled_leaves, value_leaves, make_leaves, expr_keeps}
+use Rattle.sv_meaning.specs.Calls.{Caller, call_value, first, second}
 use Rattle.sv_meaning.specs.Components.{component_of}
 use Rattle.sv_meaning.specs.Env.{Env}
-use Rattle.sv_meaning.specs.Functions.{Teller, dispatched, dispatch, event_fields, entered, env_of, found, if_there, returned, caller}
-use Rattle.sv_meaning.specs.Listeners.{heard_value, heard_result, heard_on, heard, heard_if, heard_attr, heard_by, heard_from, handler_of, is_named, listener_view, Hearer, hearer_of, attrs_of, told, teller, source}
-use Rattle.sv_meaning.specs.Outcome.{Fails, Meaning, Deed, given}
+use Rattle.sv_meaning.specs.Derived.{input_values, handed, derived_ground, apart, rejoined, called_apart, derive, running}
+use Rattle.sv_meaning.specs.Functions.{Teller, Mode, silent, dispatched, dispatch, event_fields, entered, env_of, found, if_there, returned, called_within, caller}
+use Rattle.sv_meaning.specs.Listeners.{heard_value, heard_result, heard_on, heard, heard_if, heard_attr, heard_by, heard_from, handler_of, is_named, listener_view, Hearer, hearer_of, attrs_of, told, teller}
+use Rattle.sv_meaning.specs.Outcome.{Ending, Ends, Fails, Meaning, Deed, given}
 use Rattle.sv_meaning.specs.Parts.{part_value}
-use Rattle.sv_meaning.specs.Runs.{world_ground, calls, each_in_turn, function_set, functions_set, given_for, prop_value, prop_declared, top_kind, top, script, modules_opened, run_module, run_modules, cell_opened, cells_opened, view_opened, imported_subscribed, opened, run_component, run_top, is_due, inner, run_at, run_due, run_reactive, source_of, called}
+use Rattle.sv_meaning.specs.Runs.{world_ground, calls, each_in_turn, function_set, functions_set, given_for, prop_value, prop_declared, top_kind, top, script, modules_opened, run_module, run_modules, cell_opened, cells_opened, view_opened, imported_subscribed, opened, run_component, run_top, is_due, inner, run_at, run_due, run_reactive, called, settle}
 use Rattle.sv_meaning.specs.Sight.{Ground, ground_in, is_there}
+use Rattle.sv_meaning.specs.Sources.{source, source_of}
 use Rattle.sv_meaning.specs.Statements.{subscribe}
 use Rattle.sv_meaning.specs.declared.limits.TheConstants.{CALL_LIMIT}
 use Rattle.sv_ops.specs.Answer.{object_made}
@@ -39,15 +42,20 @@ use Rattle.sv_ops.specs.declared.faults.Fault.{Fault}
 use Rattle.sv_ops.specs.declared.faults.FaultKind.TheVariants.{NotText, NotAFunction, CallDepth, UseBeforeInit}
 use Rattle.sv_states.specs.States.{States, live}
 use Rattle.sv_states.specs.declared.states.TheConstants.{DEPTH_LIMIT}
-use Rattle.sv_value.specs.Value.{Val, undefined, null, boolean, number, text, list, object, function, store, items, none}
+use Rattle.sv_value.specs.Value.{Val, Vals, undefined, null, boolean, number, text, list, object, function, store, items, none}
 use Rattle.sv_view.specs.Constants.{module_constant_at}
 use Rattle.sv_view.specs.Level.{View}
 use Rattle.sv_view.specs.Local.{Local}
+use Rattle.sv_world.specs.World.{constants_view}
 use Rattle.sv_world.specs.declared.world.World.{World}
 
 module _ (P : States → Type 0) where
   abbrev pub TellerKeeps : Teller → Type 0
   TellerKeeps tell = (call : Caller) → CallerKeeps P call → (i : ℕ) (name : List ℕ) (e : Val) → Leaves P (tell call i name e)
+
+  pub record ModeKeeps (mode : Mode) : Type 0 where
+    pub told_of : TellerKeeps mode.tells
+    pub derived : (room : ℕ) → DerivesKeep P (mode.derives room)
 
 module _ {P : States → Type 0} (stays : Stays P) where
   -- ---- functions
@@ -77,15 +85,20 @@ module _ {P : States → Type 0} (stays : Stays P) where
     found_leaves g call k None o held args s = ends_leaves undefined
     found_leaves g call k (Some f) o held args s = entered_leaves g call k f.body o (env_of f held args) args s
 
+  module _ (mode : Mode) (keeps : ModeKeeps P mode) where
     there_left : (b : Bool) (s : Span) (d : Deed Val) (w : World) → Leaves P d → P w.states → Left P (if_there b s d w)
     there_left true s d w k h = k.held w h
     there_left false s d w k h = h
 
     -- a call, with so many more that may be open
-    pub caller_keeps : (g : Ground) (room : ℕ) → CallerKeeps P (caller tell g room)
-    caller_keeps g zero c o held args s = record { held = λ w h. there_left (is_there g.sight o w) s (Fails CallDepth s) w (fails_leaves CallDepth s) h }
-    caller_keeps g (suc room) c o held args s =
-        record { held = λ w h. there_left (is_there g.sight o w) s _ w (found_leaves (ground_in g c) (caller tell (ground_in g c) room) (caller_keeps (ground_in g c) room) (slice_get g.program.functions c) o (items held) args s) h }
+    within_leaves : (g : Ground) (room c o : ℕ) (held : Vals) (args : List Val) (s : Span) → Leaves P (called_within mode g room c o held args s)
+    within_leaves g zero c o held args s = record { held = λ w h. there_left (is_there g.sight o w) s (Fails CallDepth s) w (fails_leaves CallDepth s) h }
+    within_leaves g (suc room) c o held args s =
+        let inside : CallerKeeps P (caller mode (ground_in g c) room) = record { called = within_leaves (ground_in g c) room; derived = keeps.derived room } in
+        record { held = λ w h. there_left (is_there g.sight o w) s _ w (found_leaves mode.tells keeps.told_of (ground_in g c) (caller mode (ground_in g c) room) inside (slice_get g.program.functions c) o (items held) args s) h }
+
+    pub caller_keeps : (g : Ground) (room : ℕ) → CallerKeeps P (caller mode g room)
+    caller_keeps g room = record { called = within_leaves g room; derived = keeps.derived room }
 
   -- ---- listeners of tags
 
@@ -93,7 +106,7 @@ module _ {P : States → Type 0} (stays : Stays P) where
     heard_value_leaves : (s : Span) (v e : Val) → Leaves P (heard_value p call s v e)
     heard_value_leaves s undefined e = ends_leaves tt
     heard_value_leaves s null e = ends_leaves tt
-    heard_value_leaves s (function c o held) e = then_leaves (k c o held (e ∷ []) (source p c s)) (λ v. ends_leaves tt)
+    heard_value_leaves s (function c o held) e = then_leaves (k.called c o held (e ∷ []) (source p c s)) (λ v. ends_leaves tt)
     heard_value_leaves s (boolean b) e = fails_leaves NotAFunction s
     heard_value_leaves s (number n) e = fails_leaves NotAFunction s
     heard_value_leaves s (text t) e = fails_leaves NotAFunction s
@@ -141,10 +154,28 @@ module _ {P : States → Type 0} (stays : Stays P) where
   pub teller_keeps : (p : Program) → TellerKeeps P (teller p)
   teller_keeps p call k i name e = told_leaves p call k DEPTH_LIMIT i name e
 
+  -- ---- derived stores, which are computed apart from the states
+
+  rejoined_left : (w : World) (e : Ending Val) → P w.states → Left P (rejoined w e)
+  rejoined_left w (Ends v w') h = h
+  rejoined_left w (Fails k s w') h = h
+
+  apart_leaves : (p : Program) (room owner : ℕ) (r : Recipe) (v : Val) → Leaves P (called_apart p room owner r v)
+  apart_leaves p room owner r v = record { held = λ w h. rejoined_left w (call_value (caller silent (derived_ground p (constants_view w owner)) room) r.span r.function (v ∷ []) (apart w)) h }
+
+  derive_leaves : (p : Program) (room : ℕ) → DerivesKeep P (derive p room)
+  derive_leaves p room owner r = then_leaves (record { held = λ w h. (answered_leaves r.span (handed r.takes_list (input_values w.states.stores r.inputs))).held w h }) (apart_leaves p room owner r)
+
+  pub running_keeps : (p : Program) → ModeKeeps P (running p)
+  running_keeps p = record { told_of = teller_keeps p; derived = derive_leaves p }
+
   -- ---- calls by the page
 
   pub calls_keep : (p : Program) → CallerKeeps P (calls p)
-  calls_keep p = caller_keeps (teller p) (teller_keeps p) (world_ground p) CALL_LIMIT
+  calls_keep p = caller_keeps (running p) (running_keeps p) (world_ground p) CALL_LIMIT
+
+  pub settle_leaves : (p : Program) → Leaves P (settle p)
+  settle_leaves p = settled_leaves stays (calls p).derives (calls_keep p).derived
 
   pub called_leaves : (p : Program) (v : Val) (args : List Val) (s : Span) → Leaves P (called p v args s)
   called_leaves p v args s = value_leaves stays (calls p) (calls_keep p) (source_of p v s) v args
@@ -162,6 +193,7 @@ module _ {P : States → Type 0} (stays : Stays P) where
   function_stays owner s (CodeStmtKind-F.Function x exported (known.Export file n) c) w h = h
   function_stays owner s (CodeStmtKind-F.Function x exported (known.Life l) c) w h = h
   function_stays owner s (CodeStmtKind-F.Function x exported known.Writable c) w h = h
+  function_stays owner s (CodeStmtKind-F.Function x exported known.Derived c) w h = h
   function_stays owner s (CodeStmtKind-F.Function x exported (known.BuiltIn b) c) w h = h
   function_stays owner s CodeStmtKind-F.Empty w h = h
   function_stays owner s (CodeStmtKind-F.Block names ms) w h = h
@@ -249,6 +281,7 @@ module _ {P : States → Type 0} (stays : Stays P) where
   imported_left owner (known.Constant n) x w h = h
   imported_left owner (known.Life l) x w h = h
   imported_left owner known.Writable x w h = h
+  imported_left owner known.Derived x w h = h
   imported_left owner (known.BuiltIn b) x w h = h
 
   imported_leaves : (owner : ℕ) (x : StoreCell) → Leaves P (imported_subscribed owner x)

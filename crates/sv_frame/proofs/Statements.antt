@@ -44,6 +44,7 @@ module _ {P : States → Type 0} (stays : Stays P) where
   initialized_keeps owner (known.Export file n) s v = done_keeps v
   initialized_keeps owner (known.Life l) s v = done_keeps v
   initialized_keeps owner known.Writable s v = done_keeps v
+  initialized_keeps owner known.Derived s v = done_keeps v
   initialized_keeps owner (known.BuiltIn b) s v = done_keeps v
 
   pub subscribe_leaves : (owner cell : ℕ) (s : Span) (v : Val) → Leaves P (subscribe owner cell s v)

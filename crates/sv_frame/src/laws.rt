@@ -4,16 +4,17 @@ ghost use Rattle.sv_base.specs.declared.span.Span.{Span};
 ghost use Rattle.sv_code.specs.declared.program.Program.{Program};
 ghost use Rattle.sv_frame.specs.Snapshots.{LeavesSnapshots};
 ghost use Rattle.sv_frame.specs.Views.{LeavesViews};
-ghost use Rattle.sv_meaning.specs.Runs.{run_modules, run_top, run_reactive, called};
+ghost use Rattle.sv_meaning.specs.Runs.{run_modules, run_top, run_reactive, called, settle};
 ghost use Rattle.sv_value.specs.Value.{Val};
 
-/// Whatever module files, the scripts of components, reactive statements and functions do, what was seen of each instance at its last
-/// snapshot stays.
+/// Whatever module files, the scripts of components, reactive statements, functions and derived stores do, what was seen of each instance at
+/// its last snapshot stays.
 pub fn scripts_leave_snapshots()
     ensures modules { (p : Program) → LeavesSnapshots (run_modules p) }
     ensures top { (p : Program) (n : ℕ) (props : List (ℕ × Val)) → LeavesSnapshots (run_top p n props) }
     ensures reactive { (p : Program) (n : ℕ) (all : Bool) → LeavesSnapshots (run_reactive p n all) }
     ensures calls { (p : Program) (v : Val) (args : List Val) (s : Span) → LeavesSnapshots (called p v args s) }
+    ensures settling { (p : Program) → LeavesSnapshots (settle p) }
 {}
 
 /// Nor do they lend a view: each live instance holds the view that its owner handed it last.
@@ -22,4 +23,5 @@ pub fn scripts_lend_no_views()
     ensures top { (p : Program) (n : ℕ) (props : List (ℕ × Val)) → LeavesViews (run_top p n props) }
     ensures reactive { (p : Program) (n : ℕ) (all : Bool) → LeavesViews (run_reactive p n all) }
     ensures calls { (p : Program) (v : Val) (args : List Val) (s : Span) → LeavesViews (called p v args s) }
+    ensures settling { (p : Program) → LeavesViews (settle p) }
 {}

@@ -10,7 +10,7 @@ use Rattle.sv_ast.specs.declared.names.Ref.TheVariants.{Plain}
 use Rattle.sv_ast.specs.declared.script_tree.ImportName.{ImportName}
 use Rattle.sv_ast.specs.declared.script_tree.Stmt.{Stmt}
 use Rattle.sv_ast.specs.declared.script_tree.StmtKind.{StmtKind-F, out-StmtKind}
-use Rattle.sv_base.specs.BuiltIn.{life_functions, store_functions}
+use Rattle.sv_base.specs.BuiltIn.{life_functions}
 use Rattle.sv_base.specs.Names.{Table, is_one_of}
 use Rattle.sv_base.specs.declared.built_in.TheConstants.{LIFE_MODULE, STORE_MODULE}
 use Rattle.sv_base.specs.declared.names.Name.{Name}
@@ -21,6 +21,7 @@ use Rattle.sv_imports.specs.declared.origin.Origin.TheVariants.{Life, Stores, Fi
 use Rattle.sv_ast.specs.Files.{statements_of}
 use Rattle.sv_imports.specs.Imports.{StmtLayer, file_named}
 use Rattle.sv_imports.specs.Given.{given_names}
+use Rattle.sv_imports.specs.Language.{is_store_function}
 
 abbrev pub file_origin : Option ℕ → Origin
 file_origin None = Nowhere
@@ -35,7 +36,7 @@ origin_of files from =
 -- whether it gives a name, where the files give these
 abbrev pub gives : Table → List (List Ref) → Origin → Name → Bool
 gives table given Life name = is_one_of table life_functions name
-gives table given Stores name = is_one_of table store_functions name
+gives table given Stores name = is_store_function table name
 gives table given (File file) name = option_map_or (λ names. has (Plain name) names) (slice_get given file) false
 gives table given Nowhere name = false
 

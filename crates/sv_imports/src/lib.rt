@@ -10,6 +10,6 @@ mod unknown;
 
 pub use cycles::{import_cycles, import_links};
 pub use files::file_named;
-pub use language::{is_life_function, is_store_function};
+pub use language::{DERIVED_FUNCTIONS, is_derived, is_life_function, is_store_function};
 pub use origin::{Origin, origin_of};
 pub use unknown::unknown_imports;

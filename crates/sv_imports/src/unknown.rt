@@ -13,8 +13,8 @@ use sv_names::Distinct;
 
 /// For each file of a bundle the places of the names that it imports between braces and that aren't given: in `given as local` that of
 /// `given`. A module gives what it declares by `export const` and `export function` (ECMA-262, 16.2.3). `svelte` gives `onMount`,
-/// `beforeUpdate`, `afterUpdate`, `onDestroy`, `setContext`, `getContext` and `createEventDispatcher`, and `svelte/store` gives `writable`.
-/// A component, and a file that isn't there, give nothing. `NoMemory` comes only where memory runs out.
+/// `beforeUpdate`, `afterUpdate`, `onDestroy`, `setContext`, `getContext` and `createEventDispatcher`, and `svelte/store` gives `writable` and
+/// `derived`. A component, and a file that isn't there, give nothing. `NoMemory` comes only where memory runs out.
 pub fn unknown_imports(alloc: Global, bundle: &Bundle) -> Result<Items<Items<Span>>, NoMemory>
     ensures { IfOk result (λ places. places ≡ spec.unknown_imports bundle.now) }
 {

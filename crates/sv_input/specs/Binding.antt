@@ -8,14 +8,14 @@ use Rattle.sv_document.specs.declared.listener.Binding.{Binding}
 use Rattle.sv_input.specs.Delivery.{Delivery}
 use Rattle.sv_input.specs.Number.{number_or_null}
 use Rattle.sv_meaning.specs.Outcome.{Ends, Deed, then_do, left, answered}
-use Rattle.sv_meaning.specs.Runs.{world_ground}
+use Rattle.sv_meaning.specs.Runs.{world_ground, calls}
 use Rattle.sv_meaning.specs.Sight.{set}
 use Rattle.sv_ops.specs.Answer.{Answer, gives, text_made}
 use Rattle.sv_value.specs.Value.{Val, boolean}
 
--- the variable of a binding of an instance is assigned a value
+-- the variable of a binding of an instance is assigned a value, and derived stores settle
 abbrev pub assigned : Program → ℕ → Binding → Val → Deed (Unit {0})
-assigned p inst b v w = then_do (left (set (world_ground p) inst b.target v b.span [] w)) (λ u. Ends tt)
+assigned p inst b v w = then_do (left (set (world_ground p) (calls p) inst b.target v b.span [] w)) (λ u. Ends tt)
 
 -- what a typed text is as a value: for an input of numbers the number or `null`, else the text, where it isn't too large
 abbrev pub typed_value : Bool → List ℕ → Answer

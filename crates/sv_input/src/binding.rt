@@ -12,12 +12,13 @@ use crate::number::number_in;
 use sv_base::Text;
 use sv_code::Arrows;
 use sv_document::Binding;
+use sv_eval::set;
 use sv_meaning::{CALL_LIMIT, Context, EvalError, Locals, answer};
 use sv_ops::{Given, OpError, text_value};
 use sv_value::{Inst, Value};
 use sv_world::World;
 
-// The variable of a binding of an instance is assigned a value.
+// The variable of a binding of an instance is assigned a value, and derived stores settle.
 fn assign(
     desk: &Desk,
     world: &mut World,
@@ -37,7 +38,14 @@ fn assign(
         room: CALL_LIMIT,
     };
     let mut locals = Locals::new(desk.alloc);
-    context.set(world, &mut locals, binding.target, value, binding.span)?;
+    set(
+        &context,
+        world,
+        &mut locals,
+        binding.target,
+        value,
+        binding.span,
+    )?;
     Ok(())
 }
 

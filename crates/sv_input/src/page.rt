@@ -57,9 +57,10 @@ fn named<'a>(
 /// the event run, from the target to the outermost element, those of an element in the order of the text. `false` exactly where there is no
 /// such element, and then nothing is done.
 ///
-/// A fault is the first that a directive meets: what its expression and the function that it calls meet, each at its own place;
-/// `NotAFunction` at an expression whose value can't be called; `Large` at a directive for which the typed text, or the event's object, is too
-/// large; `UseBeforeInit` at a binding whose variable has no value yet. World and showing are then what was done before it.
+/// A fault is the first that a directive meets: what its expression, the function that it calls and the functions of derived stores meet, each at
+/// its own place; `NotAFunction` at an expression whose value can't be called; `Large` at a directive for which the typed text, or the event's
+/// object, is too large; `UseBeforeInit` at a binding whose variable has no value yet, and `NoMember` at one that would set a derived store.
+/// World and showing are then what was done before it.
 pub fn dispatch(
     desk: &Desk<'_>,
     world: &mut World,

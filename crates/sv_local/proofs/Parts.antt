@@ -42,6 +42,7 @@ fine_open v v' (known.Constant n) h = tt
 fine_open v v' (known.Export file n) h = tt
 fine_open v v' (known.Life l) h = tt
 fine_open v v' known.Writable h = tt
+fine_open v v' known.Derived h = tt
 fine_open v v' (known.BuiltIn b) h = tt
 
 pub by_names : (p : Program) (part : Part) (v v' : View) → AreAlike p part v v' → part_value p v part ≡ part_value p v' part
@@ -64,6 +65,7 @@ looked_alike looks v v' a (known.Constant n) h = tt
 looked_alike looks v v' a (known.Export file n) h = tt
 looked_alike looks v v' a (known.Life l) h = tt
 looked_alike looks v v' a known.Writable h = tt
+looked_alike looks v v' a known.Derived h = tt
 looked_alike looks v v' a (known.BuiltIn b) h = tt
 
 cell_alike : (looks : Reading) (v v' : View) → AreAlikeAt looks v v' → (x : Known) → IsCellLookedAt looks x → IsCellAlike v v' x
@@ -73,6 +75,7 @@ cell_alike looks v v' a (known.Constant n) h = tt
 cell_alike looks v v' a (known.Export file n) h = tt
 cell_alike looks v v' a (known.Life l) h = tt
 cell_alike looks v v' a known.Writable h = tt
+cell_alike looks v v' a known.Derived h = tt
 cell_alike looks v v' a (known.BuiltIn b) h = tt
 
 pub by_looks : (p : Program) (part : Part) (v v' : View) → IsWithin p part → AreAlikeAt part.reads v v' → part_value p v part ≡ part_value p v' part

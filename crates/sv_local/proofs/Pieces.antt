@@ -14,7 +14,7 @@ use Rattle.sv_local.proofs.Outcomes.{Alike, then_alike, done_alike, failed_alike
 use Rattle.sv_meaning.specs.Calls.{is_of_math, of_math, log}
 use Rattle.sv_meaning.specs.Env.{Env}
 use Rattle.sv_meaning.specs.Outcome.{Meaning, Deed, and_then, given, doing, answered}
-use Rattle.sv_meaning.specs.Values.{Puts, Link, Callee, Plain, Lives, Stores, Converts, On, Ratio, Expr, plain, all_after, all_values, with_args, texts_after, template_step, parts_after, linked, chained, chain, dividing, last_division, rounds, divide, math_call, ratio_or, divided_or, built_call, named_call, callee_of}
+use Rattle.sv_meaning.specs.Values.{Puts, Link, Callee, Plain, Lives, Stores, Derives, Converts, On, Ratio, Expr, plain, all_after, all_values, with_args, texts_after, template_step, parts_after, linked, chained, chain, dividing, last_division, rounds, divide, math_call, ratio_or, divided_or, built_call, named_call, callee_of}
 use Rattle.sv_ops.specs.Answer.{spelled}
 use Rattle.sv_ops.specs.Numbers.{quotient}
 use Rattle.sv_ops.specs.Operators.{binary, stops}
@@ -31,6 +31,7 @@ module _ (E : Env → Env → Type 0) where
   CalleeAlike Plain c' = c' ≡ Plain
   CalleeAlike (Lives l) c' = c' ≡ Lives l
   CalleeAlike Stores c' = c' ≡ Stores
+  CalleeAlike Derives c' = c' ≡ Derives
   CalleeAlike (Converts b) c' = c' ≡ Converts b
   CalleeAlike (On b m p) c' = (m' : Meaning Val) × Alike E m m' × (c' ≡ On b m' p)
 
@@ -67,6 +68,7 @@ module _ (E : Env → Env → Type 0) where
   callee_same (known.Export file n) = refl
   callee_same (known.Life l) = refl
   callee_same known.Writable = refl
+  callee_same known.Derived = refl
   callee_same (known.BuiltIn built.String) = refl
   callee_same (known.BuiltIn built.Boolean) = refl
   callee_same (known.BuiltIn built.Math) = refl

@@ -1,4 +1,5 @@
 -- What expressions give on two views that are alike at the names that they read.
+use Rattle.std.specs.Prelude.{not, ◌&&◌}
 use Rattle.std.proofs.Common.{◌≡◌, ℕ, refl, sym, ap, ap₂, subst, subst₂, Bool, List, [], ◌∷◌, ◌++◌, map, Option, Some, None, is_some, option_and_then, nat_eq, slice_get, if◌then◌else◌}
 use mathlib.Core.Path.{fun_ext}
 use Rattle.sv_ast.specs.declared.operators.AssignOp.{AssignOp}
@@ -24,16 +25,17 @@ use Rattle.sv_local.proofs.Outcomes.{Same, Alike, then_alike, done_alike, failed
 use Rattle.sv_local.proofs.Pieces.{PutsAlike, CalleeAlike, ExprAlike, LinkAlike, callee_same, args_alike, template_alike, parts_alike, chain_alike, division_alike, built_alike, named_alike, plain_alike}
 use Rattle.sv_code.proofs.Each.{each_front, each_back}
 use Rattle.sv_code.specs.Names.{Each, joined, taken_in, kind_names, code_names, link_names, item_names, field_names, of_code, of_kind, of_item, of_field, of_link}
-use Rattle.sv_meaning.specs.Calls.{Caller, call_value, first, is_on_list, is_on_text, is_on_store, on_list, on_text, on_store, make_store}
+use Rattle.sv_meaning.specs.Calls.{Caller, call_value, first, is_on_list, is_on_text, is_on_store, on_list, on_text, on_store, make_store, make_derived}
 use Rattle.sv_meaning.specs.Env.{Env, look, given_value}
-use Rattle.sv_meaning.specs.Outcome.{Meaning, and_then, given, doing, answered}
-use Rattle.sv_meaning.specs.Sight.{Ground, view_cell, read, local_set, cell_set, set}
-use Rattle.sv_meaning.specs.Values.{Puts, Link, Callee, Plain, Lives, Stores, Converts, On, Expr, word_of, member_of, put_all, put_one, item_step, field_step, link_step, captured_after, holding, arrow, updated, assign_step, bump_step, life_call, convert, is_one, field_call, value_call, method_call, call_step, kind_step, code_step, expr_of, kind_of, item_of, field_of, link_of, value}
+use Rattle.sv_meaning.specs.Outcome.{Ends, Meaning, and_then, either, given, doing, answered}
+use Rattle.sv_meaning.specs.Sight.{Ground, view_cell, read, local_set, cell_put, put, set}
+use Rattle.sv_meaning.specs.Values.{Puts, Link, Callee, Plain, Lives, Stores, Derives, Converts, On, Expr, word_of, member_of, put_all, put_one, item_step, field_step, link_step, captured_after, holding, arrow, updated, assign_step, bump_step, life_call, convert, is_one, field_call, value_call, named_call, method_call, call_step, kind_step, code_step, expr_of, kind_of, item_of, field_of, link_of, value}
 use Rattle.sv_ops.specs.Answer.{text_made, list_made, object_made, function_made}
 use Rattle.sv_ops.specs.Members.{spread, spread_fields, or_undefined, index}
 use Rattle.sv_ops.specs.Numbers.{bumped, negated}
 use Rattle.sv_ops.specs.Operators.{assigned}
 use Rattle.sv_ops.specs.declared.faults.FaultKind.TheVariants.{NoMember, UseBeforeInit}
+use Rattle.sv_states.specs.States.{is_derived}
 use Rattle.sv_value.specs.Change.{truthy}
 use Rattle.sv_value.specs.Object.{get}
 use Rattle.sv_value.specs.Value.{Val, undefined, null, boolean, number, text, list, object, function, store, items}
@@ -67,6 +69,7 @@ module _ (E : Env → Env → Type 0) (p : Program) (arrows : Arrows) (own : Boo
       kept_alike (λ env env' w e. ap₂ (λ ms cs. given UseBeforeInit s (if nat_eq owner 0 then module_constant_at ms s.file n else constant_at cs n) w) (sym modules) (sym constants))
   read_alike (known.Export file n) s f = kept_alike (λ env env' w e. ap (λ ms. given UseBeforeInit s (module_constant_at ms file n) w) (sym modules))
   read_alike known.Writable s f = answered_alike s (function_made WRITABLE 0 [])
+  read_alike known.Derived s f = done_alike undefined
   read_alike (known.Life l) s f = done_alike undefined
   read_alike (known.BuiltIn b) s f = done_alike undefined
 
@@ -74,20 +77,25 @@ module _ (E : Env → Env → Type 0) (p : Program) (arrows : Arrows) (own : Boo
   local_same None x u s env env' w f e q = refl
   local_same (Some old) x u s env env' w f e q = (given_value x u env', f.sets env env' u old e q, refl)
 
-  cell_same : (o : Option Val) (n : ℕ) (u : Val) (s : Span) (env env' : Env) (w : World) → E env env' → Same E (cell_set o g owner n u s env w) (cell_set o g' owner n u s env' w)
+  cell_same : (o : Option Val) (n : ℕ) (u : Val) (s : Span) (env env' : Env) (w : World) → E env env' → Same E (cell_put o g owner n u s env w) (cell_put o g' owner n u s env' w)
   cell_same None n u s env env' w e = refl
   cell_same (Some old) n u s env env' w e = (env', e, refl)
 
-  set_alike : (x : Known) (u : Val) (s : Span) → IsFine x → Alike E (set g owner x u s) (set g' owner x u s)
-  set_alike (known.Local x) u s f =
+  put_alike : (x : Known) (u : Val) (s : Span) → IsFine x → Alike E (put g owner x u s) (put g' owner x u s)
+  put_alike (known.Local x) u s f =
       record { both = λ env env' w e. subst (λ o. Same E (local_set (look x.0 env) x.0 u s env w) (local_set o x.0 u s env' w)) (f.looks env env' e) (local_same (look x.0 env) x.0 u s env env' w f e refl) }
-  set_alike (known.Cell n) u s f =
-      record { both = λ env env' w e. subst (λ o. Same E (cell_set (view_cell own v n) g owner n u s env w) (cell_set o g' owner n u s env' w)) f (cell_same (view_cell own v n) n u s env env' w e) }
-  set_alike (known.Constant n) u s f = done_alike u
-  set_alike (known.Export file n) u s f = done_alike u
-  set_alike known.Writable u s f = done_alike u
-  set_alike (known.Life l) u s f = done_alike u
-  set_alike (known.BuiltIn b) u s f = done_alike u
+  put_alike (known.Cell n) u s f =
+      record { both = λ env env' w e. subst (λ o. Same E (cell_put (view_cell own v n) g owner n u s env w) (cell_put o g' owner n u s env' w)) f (cell_same (view_cell own v n) n u s env env' w e) }
+  put_alike (known.Constant n) u s f = done_alike u
+  put_alike (known.Export file n) u s f = done_alike u
+  put_alike known.Writable u s f = done_alike u
+  put_alike known.Derived u s f = done_alike u
+  put_alike (known.Life l) u s f = done_alike u
+  put_alike (known.BuiltIn b) u s f = done_alike u
+
+  -- no store settles behind it
+  set_alike : (x : Known) (u : Val) (s : Span) → IsFine x → Alike E (set g call owner x u s) (set g' call owner x u s)
+  set_alike x u s f = then_alike (put_alike x u s f) (λ t. doing_alike (Ends t))
 
   -- ---- arrows
 
@@ -102,18 +110,18 @@ module _ (E : Env → Env → Type 0) (p : Program) (arrows : Arrows) (own : Boo
 
   -- ---- assignments
 
-  updated_alike : (x : Known) (at : Span) (o : AssignOp) (s : Span) (a : Val) {m m' : Meaning Val} → IsFine x → Alike E m m' → Alike E (updated g owner x at o s a m) (updated g' owner x at o s a m')
+  updated_alike : (x : Known) (at : Span) (o : AssignOp) (s : Span) (a : Val) {m m' : Meaning Val} → IsFine x → Alike E m m' → Alike E (updated g call owner x at o s a m) (updated g' call owner x at o s a m')
   updated_alike x at o s a f k = then_alike k (λ b. then_alike (answered_alike s (assigned o a b)) (λ u. set_alike x u at f))
 
   changing_alike : (x : Known) (at : Span) (o : AssignOp) (s : Span) {m m' : Meaning Val} → IsFine x → Alike E m m'
-      → Alike E (λ env w. and_then (read g owner x at env w) (λ a. updated g owner x at o s a m)) (λ env w. and_then (read g' owner x at env w) (λ a. updated g' owner x at o s a m'))
+      → Alike E (λ env w. and_then (read g owner x at env w) (λ a. updated g call owner x at o s a m)) (λ env w. and_then (read g' owner x at env w) (λ a. updated g' call owner x at o s a m'))
   changing_alike x at o s f k = then_alike (read_alike x at f) (λ a. updated_alike x at o s a f k)
 
-  assign_alike : (o : AssignOp) (x : Known) (at s : Span) {m m' : Meaning Val} → IsFine x → Alike E m m' → Alike E (assign_step o g owner x at s m) (assign_step o g' owner x at s m')
+  assign_alike : (o : AssignOp) (x : Known) (at s : Span) {m m' : Meaning Val} → IsFine x → Alike E m m' → Alike E (assign_step o g call owner x at s m) (assign_step o g' call owner x at s m')
   assign_alike assign.Set x at s f k = then_alike k (λ u. set_alike x u at f)
   assign_alike o x at s f k = changing_alike x at o s f k
 
-  bump_alike : (x : Known) (at : Span) (up prefix : Bool) (s : Span) → IsFine x → Alike E (bump_step g owner x at up prefix s) (bump_step g' owner x at up prefix s)
+  bump_alike : (x : Known) (at : Span) (up prefix : Bool) (s : Span) → IsFine x → Alike E (bump_step g call owner x at up prefix s) (bump_step g' call owner x at up prefix s)
   bump_alike x at up prefix s f =
       then_alike (read_alike x at f) (λ a. then_alike (answered_alike s (bumped up a)) (λ u. then_alike (set_alike x u at f) (λ t. done_alike (if prefix then u else a))))
 
@@ -126,7 +134,9 @@ module _ (E : Env → Env → Type 0) (p : Program) (arrows : Arrows) (own : Boo
   method_alike q s at args args' h (object fs) = args_alike args args' (field_call (is_some g.sight) call s (or_undefined (get fs (word_of g q)))) h
   method_alike q s at args args' h (list vs) = either_alike (is_one is_on_list q.method) (named_alike q.method args args' (λ m. on_list m call s (items vs)) h) (value_call_alike (list vs) q s at args args' h)
   method_alike q s at args args' h (text t) = either_alike (is_one is_on_text q.method) (named_alike q.method args args' (λ m us. answered s (on_text m t us)) h) (value_call_alike (text t) q s at args args' h)
-  method_alike q s at args args' h (store id) = either_alike (is_one is_on_store q.method) (named_alike q.method args args' (λ m. on_store m call s id) h) (value_call_alike (store id) q s at args args' h)
+  method_alike q s at args args' h (store id) = record { both = λ env env' w e. (store_alike (is_one is_on_store q.method && not (is_derived w.states id))).both env env' w e } where
+    store_alike : (b : Bool) → Alike E (either b (named_call q.method args (λ m. on_store m call s id)) (value_call g call (store id) q s at args)) (either b (named_call q.method args' (λ m. on_store m call s id)) (value_call g' call (store id) q s at args'))
+    store_alike b = either_alike b (named_alike q.method args args' (λ m. on_store m call s id) h) (value_call_alike (store id) q s at args args' h)
   method_alike q s at args args' h undefined = failed_alike NoMember at
   method_alike q s at args args' h null = failed_alike NoMember at
   method_alike q s at args args' h (boolean b) = failed_alike NoMember at
@@ -153,6 +163,9 @@ module _ (E : Env → Env → Type 0) (p : Program) (arrows : Arrows) (own : Boo
   called_alike Stores c' of of' args args' s c k h =
       subst (λ z. Alike E (call_step Stores g call owner of args s) (call_step z g' call owner of' args' s)) (sym c)
       (subst (λ z. Alike E (call_step Stores g call owner of args s) (call_step Stores g' call owner (record of' { span = z }) args' s)) k.span (counted_alike of.span (args_alike args args' (λ vs. make_store (first vs)) h)))
+  called_alike Derives c' of of' args args' s c k h =
+      subst (λ z. Alike E (call_step Derives g call owner of args s) (call_step z g' call owner of' args' s)) (sym c)
+      (subst (λ z. Alike E (call_step Derives g call owner of args s) (call_step Derives g' call owner (record of' { span = z }) args' s)) k.span (counted_alike of.span (args_alike args args' (make_derived p call owner s) h)))
   called_alike (Converts b) c' of of' args args' s c k h =
       subst (λ z. Alike E (call_step (Converts b) g call owner of args s) (call_step z g' call owner of' args' s)) (sym c)
       (subst (λ z. Alike E (call_step (Converts b) g call owner of args s) (call_step (Converts b) g' call owner (record of' { span = z }) args' s)) k.span

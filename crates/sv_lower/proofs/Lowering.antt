@@ -198,10 +198,12 @@ module _ (sizes : List Size) (file : ℕ) (tops : Tops) (tops_there : TopsThere 
   store_there P (known_form.Constant n0) (known_form.Export f1 n1) h = All-nil P
   store_there P (known_form.Constant n0) (known_form.Life l1) h = All-nil P
   store_there P (known_form.Constant n0) known_form.Writable h = All-nil P
+  store_there P (known_form.Constant n0) known_form.Derived h = All-nil P
   store_there P (known_form.Constant n0) (known_form.BuiltIn g1) h = All-nil P
   store_there P (known_form.Export f0 n0) v h = All-nil P
   store_there P (known_form.Life l0) v h = All-nil P
   store_there P known_form.Writable v h = All-nil P
+  store_there P known_form.Derived v h = All-nil P
   store_there P (known_form.BuiltIn g0) v h = All-nil P
 
   -- ---- trees, with what is known of the code of each

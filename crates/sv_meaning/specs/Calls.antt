@@ -1,29 +1,37 @@
 -- Calls: of functions, and of the methods of lists, texts, stores, `Math` and `console`.
-use Rattle.std.specs.Prelude.{ℕ, suc, ◌+◌, Bool, true, false, List, [], ◌∷◌, ◌++◌, length, Option, Some, None, if◌then◌else◌}
+use Rattle.std.specs.Prelude.{ℕ, suc, ◌+◌, Bool, true, false, List, [], ◌∷◌, ◌++◌, length, Option, Some, None, option_map, if◌then◌else◌}
 use Rattle.sv_base.specs.declared.span.Span.{Span}
 use Rattle.sv_code.specs.declared.known.Method.{Method}
 use Rattle.sv_code.specs.declared.known.Method.TheVariants as method
+use Rattle.sv_code.specs.declared.program.Program.{Program}
 use Rattle.sv_value.specs.Value.{Val, Vals, undefined, null, boolean, number, text, list, object, function, store, items}
 use Rattle.sv_ops.specs.Answer.{Answer, Refuses, gives}
 use Rattle.sv_ops.specs.Lists as lists
 use Rattle.sv_ops.specs.Math as math
 use Rattle.sv_ops.specs.Texts as texts
 use Rattle.sv_ops.specs.Visits.{Turn, Ends as Stops, Puts, Passes, Holds, turn, arguments, finish}
-use Rattle.sv_ops.specs.declared.faults.FaultKind.TheVariants.{NotAFunction, NoMember, NotText}
+use Rattle.sv_ops.specs.Members.{or_undefined}
+use Rattle.sv_ops.specs.declared.faults.FaultKind.TheVariants.{NotAFunction, NotAStore, NoMember, NotText}
+use Rattle.sv_derived.specs.Derived.{Recipe}
 use Rattle.sv_states.specs.Assignment.{store_set}
-use Rattle.sv_states.specs.Change.{with_store}
-use Rattle.sv_store.specs.Stores.{value_at}
+use Rattle.sv_states.specs.Change.{with_store, with_derived}
+use Rattle.sv_states.specs.States.{is_derived}
+use Rattle.sv_store.specs.Stores.{Store, value_at}
 use Rattle.sv_world.specs.Turn.{logged}
 use Rattle.sv_world.specs.declared.world.World.{World}
-use Rattle.sv_meaning.specs.Outcome.{Ending, Ends, Fails, Deed, then_do, spent, answered}
+use Rattle.sv_meaning.specs.Outcome.{Ending, Ends, Fails, Deed, then_do, given, spent, answered}
+use Rattle.sv_meaning.specs.Settling.{settled, inputs_in, recipe}
+use Rattle.sv_meaning.specs.Sources.{source_of}
 
--- a call of a function's code, owner and captured values with some arguments, whose faults before its body stand at a place
-abbrev pub Caller : Type 0
-Caller = (code owner : ℕ) → Vals → List Val → Span → Deed Val
+-- what code does beyond its own: a call of a function's code, owner and captured values with some arguments, whose faults before its body
+-- stand at a place; and the value of a derived store of an owner, by its recipe
+pub record Caller : Type 0 where
+  pub calls : (code owner : ℕ) → Vals → List Val → Span → Deed Val
+  pub derives : (owner : ℕ) → Recipe → Deed Val
 
 -- a call of a value
 abbrev pub call_value : Caller → Span → Val → List Val → Deed Val
-call_value call s (function c o held) args w = call c o held args s w
+call_value call s (function c o held) args w = call.calls c o held args s w
 call_value call s _ args w = Fails NotAFunction s w
 
 -- the first and the second argument; a missing one is undefined
@@ -72,19 +80,32 @@ visit call m s vs args w = visit_with (is_function (first args)) call m s vs arg
 
 -- ---- calls on stores
 
-abbrev pub set_store : ℕ → Val → Deed Val
-set_store id v w = Ends undefined (record w { states = store_set w.states id v })
+-- a store takes the value, unless it is a derived one, which has no such method
+abbrev pub store_put : Span → ℕ → Val → Deed (Unit {0})
+store_put s id v w = if is_derived w.states id then Fails NoMember s w else Ends tt (record w { states = store_set w.states id v })
+
+-- the same, after which derived stores settle
+abbrev pub set_store : Caller → Span → ℕ → Val → Deed Val
+set_store call s id v w = then_do (store_put s id v w) (λ u w'. then_do (settled call.derives w') (λ t. Ends undefined))
 
 abbrev pub update_store : Bool → Caller → Span → ℕ → Val → Deed Val
 update_store false call s id f w = Fails NotAFunction s w
-update_store true call s id f w = then_do (call_value call s f (or_undefined (value_at w.states.stores id) ∷ []) w) (λ v. set_store id v) where
-  or_undefined : Option Val → Val
-  or_undefined None = undefined
-  or_undefined (Some v) = v
+update_store true call s id f w = then_do (call_value call s f (or_undefined (value_at w.states.stores id) ∷ []) w) (set_store call s id)
 
 -- a new store gives its number
 abbrev pub make_store : Val → Deed Val
 make_store v w = Ends (store (length w.states.stores)) (record w { states = with_store w.states v })
+
+-- a new derived store, which is computed at once
+abbrev pub make_computed : Caller → ℕ → Recipe → Deed Val
+make_computed call owner r w = then_do (call.derives owner r w) (λ v w'. Ends (store (length w'.states.stores)) (record w' { states = with_derived w'.states owner r v }))
+
+-- the recipe that a call of `derived` gives, with a store or a list of stores, and a function
+abbrev pub recipe_in : Program → Span → List Val → List Store → Option Recipe
+recipe_in p s args stores = option_map (λ i. recipe i (second args) (source_of p (second args) s)) (inputs_in stores (first args))
+
+abbrev pub make_derived : Program → Caller → ℕ → Span → List Val → Deed Val
+make_derived p call owner s args w = then_do (given NotAStore s (recipe_in p s args w.states.stores) w) (make_computed call owner)
 
 -- ---- methods
 
@@ -160,7 +181,7 @@ on_text _ t args = texts.split t (first args)
 
 -- what a method of a store does
 abbrev pub on_store : Method → Caller → Span → ℕ → List Val → Deed Val
-on_store method.Set call s id args = set_store id (first args)
+on_store method.Set call s id args = set_store call s id (first args)
 on_store _ call s id args = update_store (is_function (first args)) call s id (first args)
 
 -- what a method of `Math` gives

@@ -14,8 +14,8 @@ use Rattle.sv_code.specs.declared.program.Program.{Program}
 use Rattle.sv_value.specs.Value.{Val}
 use Rattle.sv_view.specs.Level.{View}
 use Rattle.sv_meaning.specs.Calls.{Caller}
-use Rattle.sv_meaning.specs.Functions.{Teller, caller, silent}
-use Rattle.sv_meaning.specs.Listeners.{teller}
+use Rattle.sv_meaning.specs.Derived.{running}
+use Rattle.sv_meaning.specs.Functions.{Mode, caller, silent}
 use Rattle.sv_meaning.specs.Sight.{Ground}
 use Rattle.sv_meaning.specs.Outcome.{Meaning, Flow}
 use Rattle.sv_meaning.specs.Statements.{Doing, Arm, run, doing_of, arm_of, decl_of, valued}
@@ -25,17 +25,17 @@ use Rattle.sv_meaning.specs.declared.context.Context.{Context}
 abbrev pub ground_of : Context → Ground
 ground_of c = record { program = c.program.now; sight = option_copied c.sight; arrows = c.arrows; is_own = c.is_own }
 
--- who hears of events: nobody in a pure evaluation
-abbrev pub hearing : Option View → Program → Teller
-hearing None p = teller p
-hearing (Some v) p = silent
+-- how code runs there
+abbrev pub mode_on : Option View → Program → Mode
+mode_on None p = running p
+mode_on (Some v) p = silent
 
-abbrev pub tells : Ground → Teller
-tells g = hearing g.sight g.program
+abbrev pub mode_of : Ground → Mode
+mode_of g = mode_on g.sight g.program
 
 -- the calls that code in a context makes
 abbrev pub calls_of : Context → Caller
-calls_of c = caller (tells (ground_of c)) (ground_of c) c.room
+calls_of c = caller (mode_of (ground_of c)) (ground_of c) c.room
 
 module _ (c : Context) where
   -- what expressions and their parts are in a context

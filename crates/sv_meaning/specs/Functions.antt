@@ -11,6 +11,7 @@ use Rattle.sv_world.specs.declared.world.World.{World}
 use Rattle.sv_meaning.specs.Calls.{Caller, first, second, make_store}
 use Rattle.sv_meaning.specs.Env.{Env, bound, opened, params, numbers}
 use Rattle.sv_meaning.specs.Outcome.{Ending, Ends, Fails, Deed, Flow, Next, Broken, Continued, Returned, then_do, left, answered}
+use Rattle.sv_meaning.specs.Settling.{Derives}
 use Rattle.sv_meaning.specs.Sight.{Ground, ground_in, is_there}
 use Rattle.sv_meaning.specs.Values.{value}
 use Rattle.sv_meaning.specs.Statements.{run_all}
@@ -19,9 +20,14 @@ use Rattle.sv_meaning.specs.Statements.{run_all}
 abbrev pub Teller : Type 0
 Teller = Caller → (instance : ℕ) → List ℕ → Val → Deed (Unit {0})
 
--- a pure evaluation tells nobody
-abbrev pub silent : Teller
-silent call i name e w = Ends tt w
+-- how code runs: who hears of its events, and what derived stores come to where so many calls may be open
+pub record Mode : Type 0 where
+  pub tells : Teller
+  pub derives : (room : ℕ) → Derives
+
+-- a pure evaluation tells nobody, and computes no store
+abbrev pub silent : Mode
+silent = record { tells = λ call i name e. Ends tt; derives = λ room owner r. Ends undefined }
 
 abbrev pub returned : Flow → Val
 returned (Returned v) = v
@@ -64,6 +70,12 @@ if_there true s deed w = deed w
 if_there false s deed w = Fails Dead s w
 
 -- a call where so many more may be open
-abbrev pub caller : Teller → Ground → ℕ → Caller
-caller tell g zero c o held args s w = if_there (is_there g.sight o w) s (Fails CallDepth s) w
-caller tell g (suc room) c o held args s w = if_there (is_there g.sight o w) s (found (slice_get g.program.functions c) tell (ground_in g c) (caller tell (ground_in g c) room) o (items held) args s) w
+abbrev pub called_within : Mode → Ground → ℕ → (code owner : ℕ) → Vals → List Val → Span → Deed Val
+called_within mode g zero c o held args s w = if_there (is_there g.sight o w) s (Fails CallDepth s) w
+called_within mode g (suc room) c o held args s w =
+    let inside : Caller = record { calls = called_within mode (ground_in g c) room; derives = mode.derives room } in
+    if_there (is_there g.sight o w) s (found (slice_get g.program.functions c) mode.tells (ground_in g c) inside o (items held) args s) w
+
+-- what code does beyond its own where so many calls may be open
+abbrev pub caller : Mode → Ground → ℕ → Caller
+caller mode g room = record { calls = called_within mode g room; derives = mode.derives room }

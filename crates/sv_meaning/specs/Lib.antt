@@ -1,5 +1,7 @@
 pub mod Env
 pub mod Outcome
+pub mod Settling
+pub mod Sources
 pub mod Sight
 pub mod Calls
 pub mod Values
@@ -9,8 +11,10 @@ pub mod Parts
 pub mod Moved
 pub mod Components
 pub mod Listeners
+pub mod Derived
 pub mod Runs
 pub mod Gives
 pub mod Context
 pub mod Counts
 pub mod Hearers
+pub mod Computes

@@ -26,20 +26,13 @@ use Rattle.sv_meaning.specs.Calls.{Caller, call_value}
 use Rattle.sv_meaning.specs.Functions.{Teller}
 use Rattle.sv_meaning.specs.Outcome.{Ending, Ends, Fails, Deed, then_do}
 use Rattle.sv_meaning.specs.Parts.{part_value}
-
--- where a function is written; what a call by the page itself can't do stands there
-abbrev pub source_at : Option Function → Span → Span
-source_at None s = s
-source_at (Some f) s = f.span
-
-abbrev pub source : Program → ℕ → Span → Span
-source p c s = source_at (slice_get p.functions c) s
+use Rattle.sv_meaning.specs.Sources.{source}
 
 -- what an expression gave is called with the event; nothing is passed over
 abbrev pub heard_value : Program → Caller → Span → Val → Val → Deed (Unit {0})
 heard_value p call s undefined e w = Ends tt w
 heard_value p call s null e w = Ends tt w
-heard_value p call s (function c o held) e w = then_do (call c o held (e ∷ []) (source p c s) w) (λ v. Ends tt)
+heard_value p call s (function c o held) e w = then_do (call.calls c o held (e ∷ []) (source p c s) w) (λ v. Ends tt)
 heard_value p call s _ e w = Fails NotAFunction s w
 
 abbrev pub heard_result : Program → Caller → Span → Result Val Fault → Val → Deed (Unit {0})

@@ -18,15 +18,17 @@ use Rattle.sv_code.specs.declared.program.StoreCell.{StoreCell}
 use Rattle.sv_ops.specs.declared.faults.FaultKind.TheVariants.{NotAStore, UseBeforeInit}
 use Rattle.sv_states.specs.Change.{declared}
 use Rattle.sv_states.specs.States.{live, is_dirty_in}
-use Rattle.sv_value.specs.Value.{Val, Vals, undefined, function, none}
+use Rattle.sv_value.specs.Value.{Val, undefined, function, none}
 use Rattle.sv_view.specs.Constants.{no_constants, module_constant_at}
 use Rattle.sv_world.specs.declared.world.World.{World}
 use Rattle.sv_meaning.specs.Calls.{Caller, call_value}
 use Rattle.sv_meaning.specs.Components.{component_of}
+use Rattle.sv_meaning.specs.Derived.{running}
 use Rattle.sv_meaning.specs.Functions.{caller}
-use Rattle.sv_meaning.specs.Listeners.{teller, source}
 use Rattle.sv_meaning.specs.Outcome.{Ending, Ends, Fails, Deed, Meaning, Flow, Next, Outcome, Done, and_then, then_do, left, given, counted}
+use Rattle.sv_meaning.specs.Settling.{settled}
 use Rattle.sv_meaning.specs.Sight.{Ground}
+use Rattle.sv_meaning.specs.Sources.{source_of}
 use Rattle.sv_meaning.specs.Statements.{run, value_or, valued, declare, subscribe, constant_set, in_order}
 use Rattle.sv_meaning.specs.declared.limits.TheConstants.{CALL_LIMIT}
 
@@ -36,7 +38,11 @@ world_ground p = record { program = p; sight = None; arrows = record { from = 0;
 
 -- calls of scripts, none of which is open before
 abbrev pub calls : Program → Caller
-calls p = caller (teller p) (world_ground p) CALL_LIMIT
+calls p = caller (running p) (world_ground p) CALL_LIMIT
+
+-- derived stores settle, where no call is open
+abbrev pub settle : Program → Deed (Unit {0})
+settle p = settled (calls p).derives
 
 -- things done in turn
 abbrev pub each_in_turn : {A : Type 0} → (A → Deed (Unit {0})) → List A → Deed (Unit {0})
@@ -175,11 +181,6 @@ run_reactive p i all w = go (component_of p w i) where
   go (Some c) = each_in_turn (run_due p all i c.script) c.runs w
 
 -- ---- calls by the page
-
--- where the source of a function stands; what is none stands at a place that is given
-abbrev pub source_of : Program → Val → Span → Span
-source_of p (function c o held) s = source p c s
-source_of p _ s = s
 
 -- a function that the page calls: a callback, or a listener of an element
 abbrev pub called : Program → Val → List Val → Span → Deed Val

@@ -9,9 +9,10 @@ use Rattle.sv_code.specs.declared.parts.Arrows.{Arrows}
 use Rattle.sv_code.specs.declared.program.Program.{Program}
 use Rattle.sv_code.specs.Within.{is_among}
 use Rattle.sv_ops.specs.Answer.{function_made}
-use Rattle.sv_ops.specs.declared.faults.FaultKind.TheVariants.{UseBeforeInit}
+use Rattle.sv_ops.specs.declared.faults.FaultKind.TheVariants.{NoMember, UseBeforeInit}
 use Rattle.sv_states.specs.States.{live, cell_in}
 use Rattle.sv_states.specs.Assignment as states
+use Rattle.sv_states.specs.Assignment.{is_read_only}
 use Rattle.sv_value.specs.Value.{Val, undefined}
 use Rattle.sv_view.specs.Constants.{constant_at, module_constant_at}
 use Rattle.sv_view.specs.Level.{View}
@@ -19,8 +20,10 @@ use Rattle.sv_view.specs.View.{look as look_in}
 use Rattle.sv_view.specs.declared.view.At.TheVariants as at
 use Rattle.sv_world.specs.Setup.{constant_in}
 use Rattle.sv_world.specs.declared.world.World.{World}
+use Rattle.sv_meaning.specs.Calls.{Caller}
 use Rattle.sv_meaning.specs.Env.{Env, look, given_value}
-use Rattle.sv_meaning.specs.Outcome.{Outcome, Done, Failed, Meaning, kept, given, answered}
+use Rattle.sv_meaning.specs.Outcome.{Ending, Ends, Fails, Deed, Outcome, Done, Failed, Meaning, and_then, then_do, kept, doing, given, answered}
+use Rattle.sv_meaning.specs.Settling.{settled}
 
 -- what stays the same while the body of a function runs: the program; of a pure evaluation the view, and the arrows that are written in its
 -- part; and whether the code that runs is the part's own
@@ -61,13 +64,14 @@ abbrev pub is_there : Option View → ℕ → World → Bool
 is_there None owner w = nat_eq owner 0 || is_some (live w.states owner)
 is_there (Some v) owner w = true
 
--- the value of a name; what `svelte` gives and what is built in has none but where it is called
+-- the value of a name; what `svelte` gives, `derived` and what is built in have none but where they are called
 abbrev pub read : Ground → ℕ → Known → Span → Meaning Val
 read g owner (known.Local x) s env w = kept env (given UseBeforeInit s (look x.0 env) w)
 read g owner (known.Cell n) s env w = kept env (given UseBeforeInit s (cell_seen g.sight g.is_own owner n w) w)
 read g owner (known.Constant n) s env w = kept env (given UseBeforeInit s (constant_seen g.sight owner s.file n w) w)
 read g owner (known.Export file n) s env w = kept env (given UseBeforeInit s (module_constant_at (modules_seen g.sight w) file n) w)
 read g owner known.Writable s env w = kept env (answered s (function_made WRITABLE 0 []) w)
+read g owner known.Derived s env w = Done undefined env w
 read g owner (known.Life l) s env w = Done undefined env w
 read g owner (known.BuiltIn b) s env w = Done undefined env w
 
@@ -77,16 +81,26 @@ abbrev pub local_set : Option Val → ℕ → Val → Span → Meaning Val
 local_set None x v s env w = Failed UseBeforeInit s w
 local_set (Some old) x v s env w = Done v (given_value x v env) w
 
-abbrev pub cell_assigned : Option View → ℕ → ℕ → Val → World → World
-cell_assigned None owner n v w = record w { states = states.assigned w.states owner n v }
-cell_assigned (Some view) owner n v w = w
+-- a cell of the owner is assigned, unless that would set a derived store; a pure evaluation changes none
+abbrev pub cell_assigned : Option View → ℕ → ℕ → Val → Span → Deed Val
+cell_assigned None owner n v s w = if is_read_only w.states owner n then Fails NoMember s w else Ends v (record w { states = states.assigned w.states owner n v })
+cell_assigned (Some view) owner n v s w = Ends v w
 
-abbrev pub cell_set : Option Val → Ground → ℕ → ℕ → Val → Span → Meaning Val
-cell_set None g owner n v s env w = Failed UseBeforeInit s w
-cell_set (Some old) g owner n v s env w = Done v env (cell_assigned g.sight owner n v w)
+abbrev pub cell_put : Option Val → Ground → ℕ → ℕ → Val → Span → Meaning Val
+cell_put None g owner n v s env w = Failed UseBeforeInit s w
+cell_put (Some old) g owner n v s env w = kept env (cell_assigned g.sight owner n v s w)
 
 -- a name whose declaration ran is assigned a value, which the assignment gives; nothing else can be assigned
-abbrev pub set : Ground → ℕ → Known → Val → Span → Meaning Val
-set g owner (known.Local x) v s env w = local_set (look x.0 env) x.0 v s env w
-set g owner (known.Cell n) v s env w = cell_set (cell_seen g.sight g.is_own owner n w) g owner n v s env w
-set g owner _ v s env w = Done v env w
+abbrev pub put : Ground → ℕ → Known → Val → Span → Meaning Val
+put g owner (known.Local x) v s env w = local_set (look x.0 env) x.0 v s env w
+put g owner (known.Cell n) v s env w = cell_put (cell_seen g.sight g.is_own owner n w) g owner n v s env w
+put g owner _ v s env w = Done v env w
+
+-- whether an assignment may change a store
+abbrev pub may_change : Option View → Known → Bool
+may_change None (known.Cell n) = true
+may_change _ _ = false
+
+-- the same, after which derived stores settle
+abbrev pub set : Ground → Caller → ℕ → Known → Val → Span → Meaning Val
+set g call owner x v s env w = and_then (put g owner x v s env w) (λ u. doing (λ w'. then_do (if may_change g.sight x then settled call.derives w' else Ends tt w') (λ t. Ends u)))

@@ -1,5 +1,5 @@
 -- What expressions do (ECMA-262, section 13, in the subset that docs/language.md gives). Each node takes a step before its parts.
-use Rattle.std.specs.Prelude.{ℕ, Bool, true, false, not, List, [], ◌∷◌, ◌++◌, length, map, Option, Some, None, is_some, option_and_then, slice_get, if◌then◌else◌}
+use Rattle.std.specs.Prelude.{ℕ, Bool, true, false, not, ◌&&◌, List, [], ◌∷◌, ◌++◌, length, map, Option, Some, None, is_some, option_and_then, slice_get, if◌then◌else◌}
 use Rattle.sv_ast.specs.declared.operators.AssignOp.{AssignOp}
 use Rattle.sv_ast.specs.declared.operators.AssignOp.TheVariants.{Set}
 use Rattle.sv_ast.specs.declared.operators.Op.{Op}
@@ -32,6 +32,7 @@ use Rattle.sv_ops.specs.Operators.{binary, stops, assigned}
 use Rattle.sv_ops.specs.Texts.{between}
 use Rattle.sv_ops.specs.declared.faults.FaultKind.TheVariants.{NotAFunction, NoMember, NotText, BadKey, UseBeforeInit}
 use Rattle.sv_states.specs.Context.{context_of}
+use Rattle.sv_states.specs.States.{is_derived}
 use Rattle.sv_value.specs.Change.{truthy}
 use Rattle.sv_value.specs.Key.{key_of}
 use Rattle.sv_value.specs.Object.{get}
@@ -40,7 +41,7 @@ use Rattle.sv_value.specs.Words.{text_of}
 use Rattle.sv_value.specs.declared.key.Key.{Key}
 use Rattle.sv_world.specs.Setup.{set_up}
 use Rattle.sv_world.specs.declared.world.World.{World}
-use Rattle.sv_meaning.specs.Calls.{Caller, call_value, first, second, is_function, is_on_list, is_on_text, is_on_store, is_of_math, on_list, on_text, on_store, of_math, log, make_store}
+use Rattle.sv_meaning.specs.Calls.{Caller, call_value, first, second, is_function, is_on_list, is_on_text, is_on_store, is_of_math, on_list, on_text, on_store, of_math, log, make_store, make_derived}
 use Rattle.sv_meaning.specs.Env.{Env, look}
 use Rattle.sv_meaning.specs.Outcome.{Ending, Ends, Fails, Outcome, Done, Failed, Meaning, Deed, and_then, kept, doing, given, either, counted, spent, answered}
 use Rattle.sv_meaning.specs.Sight.{Ground, read, set}
@@ -56,12 +57,13 @@ pub record Link : Type 0 where
   pub op : Op
   pub right : Meaning Val
 
--- how an expression is called: as a value; as what `svelte` gives; as `writable`; as `String` or `Boolean`; or as a member of an expression, which
--- may be `Math` or `console`
+-- how an expression is called: as a value; as what `svelte` gives; as `writable`; as `derived`; as `String` or `Boolean`; or as a member of an
+-- expression, which may be `Math` or `console`
 pub data Callee : Type 0 where
   Plain : Callee
   Lives : Life → Callee
   Stores : Callee
+  Derives : Callee
   Converts : BuiltIn → Callee
   On : Option BuiltIn → Meaning Val → Property → Callee
 
@@ -200,16 +202,16 @@ arrow (Some f) c o env = holding c o (captured_after [] f.captured env)
 -- ---- assignments of names that stand at a place
 
 -- the value of a name and an operand give the name a new one
-abbrev pub updated : Ground → ℕ → Known → (at : Span) → AssignOp → Span → Val → Meaning Val → Meaning Val
-updated g owner x at op s a m env w = and_then (m env w) (λ b env' w'. and_then (kept env' (answered s (assigned op a b) w')) (λ v. set g owner x v at))
+abbrev pub updated : Ground → Caller → ℕ → Known → (at : Span) → AssignOp → Span → Val → Meaning Val → Meaning Val
+updated g call owner x at op s a m env w = and_then (m env w) (λ b env' w'. and_then (kept env' (answered s (assigned op a b) w')) (λ v. set g call owner x v at))
 
-abbrev pub assign_step : AssignOp → Ground → ℕ → Known → (at : Span) → Span → Meaning Val → Meaning Val
-assign_step Set g owner x at s m env w = and_then (m env w) (λ v. set g owner x v at)
-assign_step op g owner x at s m env w = and_then (read g owner x at env w) (λ a. updated g owner x at op s a m)
+abbrev pub assign_step : AssignOp → Ground → Caller → ℕ → Known → (at : Span) → Span → Meaning Val → Meaning Val
+assign_step Set g call owner x at s m env w = and_then (m env w) (λ v. set g call owner x v at)
+assign_step op g call owner x at s m env w = and_then (read g owner x at env w) (λ a. updated g call owner x at op s a m)
 
-abbrev pub bump_step : Ground → ℕ → Known → (at : Span) → (up prefix : Bool) → Span → Meaning Val
-bump_step g owner x at up prefix s env w =
-    and_then (read g owner x at env w) (λ a env' w'. and_then (kept env' (answered s (bumped up a) w')) (λ v env'' w''. and_then (set g owner x v at env'' w'') (λ u. Done (if prefix then v else a))))
+abbrev pub bump_step : Ground → Caller → ℕ → Known → (at : Span) → (up prefix : Bool) → Span → Meaning Val
+bump_step g call owner x at up prefix s env w =
+    and_then (read g owner x at env w) (λ a env' w'. and_then (kept env' (answered s (bumped up a) w')) (λ v env'' w''. and_then (set g call owner x v at env'' w'') (λ u. Done (if prefix then v else a))))
 
 -- ---- calls
 
@@ -288,18 +290,19 @@ abbrev pub named_call : Option Method → List Expr → (Method → List Val →
 named_call None args go = Done undefined
 named_call (Some m) args go = with_args args (go m)
 
--- a call of a member of a value, which is looked at before the arguments
+-- a call of a member of a value, which is looked at before the arguments; a derived store has no methods
 abbrev pub method_call : Ground → Caller → Property → Span → Span → List Expr → Val → Meaning Val
 method_call g call p s at args (object fs) = with_args args (field_call (is_some g.sight) call s (or_undefined (get fs (word_of g p))))
 method_call g call p s at args (list vs) = either (is_one is_on_list p.method) (named_call p.method args (λ m. on_list m call s (items vs))) (value_call g call (list vs) p s at args)
 method_call g call p s at args (text t) = either (is_one is_on_text p.method) (named_call p.method args (λ m us. answered s (on_text m t us))) (value_call g call (text t) p s at args)
-method_call g call p s at args (store id) = either (is_one is_on_store p.method) (named_call p.method args (λ m. on_store m call s id)) (value_call g call (store id) p s at args)
+method_call g call p s at args (store id) = λ env w. either (is_one is_on_store p.method && not (is_derived w.states id)) (named_call p.method args (λ m. on_store m call s id)) (value_call g call (store id) p s at args) env w
 method_call g call p s at args v = λ env w. Failed NoMember at w
 
 abbrev pub call_step : Callee → Ground → Caller → ℕ → Expr → List Expr → Span → Meaning Val
 call_step Plain g call owner of args s env w = and_then (of.means env w) (λ f. with_args args (call_value call s f))
 call_step (Lives l) g call owner of args s env w = counted of.span (with_args args (life_call l owner s)) env w
 call_step Stores g call owner of args s env w = counted of.span (with_args args (λ vs. make_store (first vs))) env w
+call_step Derives g call owner of args s env w = counted of.span (with_args args (make_derived g.program call owner s)) env w
 call_step (Converts b) g call owner of args s env w = counted of.span (with_args args (λ vs. answered s (convert b (first vs)))) env w
 call_step (On (Some b) m p) g call owner of args s env w = counted of.span (λ env' w'. and_then (m env' w') (λ v. built_call b p.method s of.span args)) env w
 call_step (On None m p) g call owner of args s env w = counted of.span (λ env' w'. and_then (m env' w') (method_call g call p s of.span args)) env w
@@ -309,6 +312,7 @@ call_step (On None m p) g call owner of args s env w = counted of.span (λ env' 
 abbrev pub callee_of : Known → Callee
 callee_of (known.Life l) = Lives l
 callee_of known.Writable = Stores
+callee_of known.Derived = Derives
 callee_of (known.BuiltIn built.String) = Converts built.String
 callee_of (known.BuiltIn built.Boolean) = Converts built.Boolean
 callee_of _ = Plain
@@ -330,8 +334,8 @@ module _ (g : Ground) (call : Caller) (owner : ℕ) where
   kind_step (CodeKind-F.Object ps) s = plain s (λ env w. and_then (parts_after s [] ps env w) (λ es. doing (answered s (object_made es))))
   kind_step (CodeKind-F.Template es) s = plain s (template_step s es)
   kind_step (CodeKind-F.Arrow c) s = plain s (λ env w. kept env (answered s (arrow (slice_get g.program.functions c) c owner env) w))
-  kind_step (CodeKind-F.Assign x at op e) s = plain s (assign_step op g owner x at s e.means)
-  kind_step (CodeKind-F.Bump x at up prefix) s = plain s (bump_step g owner x at up prefix s)
+  kind_step (CodeKind-F.Assign x at op e) s = plain s (assign_step op g call owner x at s e.means)
+  kind_step (CodeKind-F.Bump x at up prefix) s = plain s (bump_step g call owner x at up prefix s)
   kind_step (CodeKind-F.Chain e ls) s = record (plain s (chain s e.means ls)) { ratio = last_division s e.means [] ls }
   kind_step (CodeKind-F.Not e) s = plain s (λ env w. and_then (e.means env w) (λ v. Done (boolean (not (truthy v)))))
   kind_step (CodeKind-F.Minus e) s = plain s (λ env w. and_then (e.means env w) (λ v. doing (answered s (negated v))))

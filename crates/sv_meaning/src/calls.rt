@@ -10,7 +10,7 @@ ghost use Rattle.sv_meaning.specs.Calls as spec;
 ghost use Rattle.sv_meaning.specs.Gives.{EndsAs};
 ghost use Rattle.sv_meaning.specs.Values.{life_call, call_at, convert};
 
-use crate::counting::{fault, spend};
+use crate::counting::{assigned, fault, spend};
 use crate::errors::EvalError;
 use std::alloc::Global;
 use sv_base::{NoMemory, Span};
@@ -114,13 +114,12 @@ pub fn is_on_store(method: Method) -> bool
     matches!(method, Method::Set | Method::Update)
 }
 
-/// Sets a store to the first argument.
-pub fn set_store(world: &mut World, id: u32, value: Value) -> Result<Value, EvalError>
-    ensures means { EndsAs view_of result world.new (spec.set_store id (view_of value) world.old) }
+/// A store takes a value, before derived stores settle; `NoMember` exactly where it is a derived one.
+pub fn put_store(world: &mut World, id: u32, value: Value, span: Span) -> Result<(), EvalError>
+    ensures means { EndsAs (λ u. u) result world.new (spec.store_put span id (view_of value) world.old) }
     ensures fewer { world.new.turn.steps ≤ world.old.turn.steps }
 {
-    world.set_store(id, value)?;
-    Ok(Value::Undefined)
+    assigned(world.set_store(id, value), span)
 }
 
 /// The value of a store, undefined where it was never made.

@@ -10,9 +10,9 @@ ghost use Rattle.sv_meaning.specs.Context.{ground_of};
 ghost use Rattle.sv_meaning.specs.Env.{Env, look};
 ghost use Rattle.sv_meaning.specs.Gives.{Gives, EndsAs};
 ghost use Rattle.sv_meaning.specs.Outcome.{given};
-ghost use Rattle.sv_meaning.specs.Sight.{read, set, cell_seen, cell_set, local_set, constant_seen, modules_seen};
+ghost use Rattle.sv_meaning.specs.Sight.{read, put, cell_seen, cell_put, local_set, constant_seen, modules_seen};
 
-use crate::counting::{answer, fault};
+use crate::counting::{answer, assigned, fault};
 use crate::errors::EvalError;
 use crate::limits::CALL_LIMIT;
 use crate::locals::Locals;
@@ -124,12 +124,13 @@ impl Context<'_> {
                 let made = function_of(self.alloc, WRITABLE, module, Vec::new(self.alloc));
                 answer(world, made, span)
             }
-            Known::Life(_) | Known::BuiltIn(_) => Ok(Value::Undefined),
+            Known::Life(_) | Known::Derived | Known::BuiltIn(_) => Ok(Value::Undefined),
         }
     }
 
-    /// Assigns a value to a name, and gives it; `UseBeforeInit` exactly where its declaration hasn't run. A pure evaluation changes no cell.
-    pub fn set(
+    /// Assigns a value to a name, and gives it, before derived stores settle; `UseBeforeInit` exactly where its declaration hasn't run, or else
+    /// `NoMember` where a derived store would be set. A pure evaluation changes no cell.
+    pub fn put(
         &self,
         world: &mut World,
         locals: &mut Locals,
@@ -137,31 +138,31 @@ impl Context<'_> {
         value: Value,
         span: Span,
     ) -> Result<Value, EvalError>
-        ensures means { Gives view_of result locals.new world.new (set (ground_of self.now) self.now.owner.number name (view_of value) span locals.old world.old) }
+        ensures means { Gives view_of result locals.new world.new (put (ground_of self.now) self.now.owner.number name (view_of value) span locals.old world.old) }
         ensures fewer { world.new.turn.steps ≤ world.old.turn.steps }
     {
         match name {
-            Known::Local(name) => set_local(locals, name, value, span),
-            Known::Cell(cell) => self.set_cell(world, cell, value, span),
+            Known::Local(name) => put_local(locals, name, value, span),
+            Known::Cell(cell) => self.put_cell(world, cell, value, span),
             _ => Ok(value),
         }
     }
 
-    fn set_cell(
+    fn put_cell(
         &self,
         world: &mut World,
         cell: u8,
         value: Value,
         span: Span,
     ) -> Result<Value, EvalError>
-        ensures means { (env : Env) → Gives view_of result env world.new (cell_set (cell_seen (option_copied self.now.sight) self.now.is_own self.now.owner.number cell world.old) (ground_of self.now) self.now.owner.number cell (view_of value) span env world.old) }
+        ensures means { (env : Env) → Gives view_of result env world.new (cell_put (cell_seen (option_copied self.now.sight) self.now.is_own self.now.owner.number cell world.old) (ground_of self.now) self.now.owner.number cell (view_of value) span env world.old) }
         ensures fewer { world.new.turn.steps ≤ world.old.turn.steps }
     {
         if self.cell(world, cell).is_none() {
             return Err(fault(FaultKind::UseBeforeInit, span));
         }
         if self.sight.is_none() {
-            world.assign(self.owner, cell, value.share()?)?;
+            assigned(world.assign(self.owner, cell, value.share()?), span)?;
         }
         Ok(value)
     }
@@ -177,7 +178,7 @@ fn found(value: Option<&Value>, span: Span) -> Result<Value, EvalError>
     }
 }
 
-fn set_local(locals: &mut Locals, name: Name, value: Value, span: Span) -> Result<Value, EvalError>
+fn put_local(locals: &mut Locals, name: Name, value: Value, span: Span) -> Result<Value, EvalError>
     ensures { (w : Worlds) → Gives view_of result locals.new w (local_set (look name.0 locals.old) name.0 (view_of value) span locals.old w) }
 {
     if locals.get(name).is_none() {

@@ -5,12 +5,13 @@ ghost use Rattle.sv_ops.specs.Answer.{Answer};
 ghost use Rattle.sv_ops.specs.Answers.{Answers};
 ghost use Rattle.sv_world.specs.declared.world.World.{World as WorldRecord};
 ghost use Rattle.sv_meaning.specs.Counts.{Counts};
-ghost use Rattle.sv_meaning.specs.Gives.{EndsAs};
+ghost use Rattle.sv_meaning.specs.Gives.{EndsAs, assigned_at};
 ghost use Rattle.sv_meaning.specs.Outcome.{Ends, spent, answered, with_steps};
 
 use crate::errors::EvalError;
 use sv_base::Span;
 use sv_ops::{Fault, FaultKind, Given, OpError};
+use sv_states::AssignError;
 use sv_value::Value;
 use sv_world::World;
 
@@ -62,5 +63,16 @@ pub fn answer(
         }
         Err(OpError::Fault(kind)) => Err(fault(kind, span)),
         Err(OpError::NoMemory) => Err(EvalError::NoMemory),
+    }
+}
+
+/// What an assignment at a place answers: `NoMember` exactly where a derived store would be set.
+pub fn assigned(given: Result<(), AssignError>, span: Span) -> Result<(), EvalError>
+    ensures { result ≡ assigned_at span given }
+{
+    match given {
+        Ok(()) => Ok(()),
+        Err(AssignError::ReadOnly) => Err(fault(FaultKind::NoMember, span)),
+        Err(AssignError::NoMemory) => Err(EvalError::NoMemory),
     }
 }

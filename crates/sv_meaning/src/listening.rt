@@ -1,15 +1,17 @@
 // Whose listeners hear of events, and where pure evaluations run.
 ghost use Rattle.std.specs.Prelude.{◌≡◌, IfOk, option_map};
 ghost use Rattle.sv_states.specs.States.{live};
+ghost use Rattle.sv_value.specs.View.{view_of};
 ghost use Rattle.sv_meaning.specs.Hearers.{hearer_seen};
-ghost use Rattle.sv_meaning.specs.Listeners.{hearer_of, listener_view, attrs_of, source};
+ghost use Rattle.sv_meaning.specs.Listeners.{hearer_of, listener_view, attrs_of};
 ghost use Rattle.sv_meaning.specs.Parts.{part_world};
+ghost use Rattle.sv_meaning.specs.Sources.{source_of};
 
 use crate::limits::PART_STEP_LIMIT;
 use std::alloc::Global;
 use sv_base::{NoMemory, Span};
 use sv_code::{FragAttr, Program};
-use sv_value::Inst;
+use sv_value::{Inst, Value};
 use sv_view::{Locals, View};
 use sv_world::{STEP_LIMIT, World};
 
@@ -70,10 +72,13 @@ pub fn attrs_of(program: &Program, tag: u32) -> &[FragAttr]
 }
 
 /// Where the source of a function is written, or a place where there is none.
-pub fn source_of(program: &Program, code: u32, span: Span) -> Span
-    ensures { result ≡ source program.now code span }
+pub fn source_of(program: &Program, function: &Value, span: Span) -> Span
+    ensures { result ≡ source_of program.now (view_of function.now) span }
 {
-    match program.functions.as_slice().get(code as usize) {
+    let Value::Func(function) = function else {
+        return span;
+    };
+    match program.functions.as_slice().get(function.code() as usize) {
         Some(function) => function.span,
         None => span,
     }

@@ -32,7 +32,7 @@ module _ {P : States → Type 0} (stay : Stays P) where
   -- ---- variables that follow inputs
 
   assigned_leaves : (p : Program) (inst : ℕ) (b : Binding) (v : Val) → Leaves P (assigned p inst b v)
-  assigned_leaves p inst b v = then_leaves (left_leaves [] (set_keeps stay (world_ground p) inst b.target v b.span)) (λ u. ends_leaves tt)
+  assigned_leaves p inst b v = then_leaves (left_leaves [] (set_keeps stay (calls p) (calls_keep stay p) (world_ground p) inst b.target v b.span)) (λ u. ends_leaves tt)
 
   value_leaves : (d : Delivery) (inst : ℕ) (b : Binding) (o : Option (List ℕ)) → Leaves P (value_bound d inst b o)
   value_leaves d inst b None = ends_leaves tt

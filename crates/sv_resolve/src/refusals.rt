@@ -30,6 +30,9 @@ pub enum CheckKind {
     /// A function of the life of a component stands where it may not.
     #[error("BadLifecyclePlace")]
     BadLifecyclePlace,
+    /// `derived` stands where it may not, or is given no pure function of one parameter.
+    #[error("BadDerived")]
+    BadDerived,
     /// An expression of markup isn't pure.
     #[error("ImpureMarkup")]
     ImpureMarkup,

@@ -50,6 +50,7 @@ pub fn check_word(kind: CheckKind) -> &'static str
         CheckKind::CapturedAssign => "CapturedAssign",
         CheckKind::BadStore => "BadStore",
         CheckKind::BadLifecyclePlace => "BadLifecyclePlace",
+        CheckKind::BadDerived => "BadDerived",
         CheckKind::ImpureMarkup => "ImpureMarkup",
         CheckKind::UnknownProp => "UnknownProp",
         CheckKind::UnknownSlot => "UnknownSlot",

@@ -85,9 +85,12 @@ fn subscribe_import(world: &mut World, inst: Inst, store: &StoreCell) -> Result<
     match store.holder {
         Known::Export { file, constant } => subscribe_export(world, inst, store, file, constant),
         Known::Constant(_) => Ok(()),
-        Known::Local(_) | Known::Cell(_) | Known::Life(_) | Known::Writable | Known::BuiltIn(_) => {
-            Err(fault(FaultKind::NotAStore, store.span))
-        }
+        Known::Local(_)
+        | Known::Cell(_)
+        | Known::Life(_)
+        | Known::Writable
+        | Known::Derived
+        | Known::BuiltIn(_) => Err(fault(FaultKind::NotAStore, store.span)),
     }
 }
 

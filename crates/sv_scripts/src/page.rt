@@ -1,9 +1,9 @@
-// What the page calls: functions of scripts, and the listeners of tags.
+// What the page asks for: calls of functions of scripts and of the listeners of tags, and that derived stores settle.
 ghost use Rattle.std.specs.Prelude.{◌≡◌, false, map};
 ghost use Rattle.sv_value.specs.View.{view_of};
 ghost use Rattle.sv_meaning.specs.Gives.{EndsAs};
 ghost use Rattle.sv_meaning.specs.Listeners.{teller};
-ghost use Rattle.sv_meaning.specs.Runs.{calls, called, source_of};
+ghost use Rattle.sv_meaning.specs.Runs.{calls, called, settle};
 
 use std::alloc::Global;
 use sv_base::{Span, Text};
@@ -26,18 +26,8 @@ pub fn call(
 ) -> Result<Value, EvalError>
     ensures { EndsAs view_of result world.new (called program.now (view_of function.now) (map view_of args.now) span world.old) }
 {
-    let at = place_of(program, function, span);
+    let at = source_of(program, function, span);
     call_value(&page_context(alloc, program), world, function, args, at)
-}
-
-// Where the source of a function stands, or a place that is given.
-fn place_of(program: &Program, function: &Value, span: Span) -> Span
-    ensures { result ≡ source_of program.now (view_of function.now) span }
-{
-    match function {
-        Value::Func(function) => source_of(program, function.code(), span),
-        _ => span,
-    }
 }
 
 /// Tells the listeners of an instance's own tag of an event, in the order of the text; those without an expression pass it on to the tag of the
@@ -58,6 +48,14 @@ pub fn tell_tag(
         inst,
         event,
     )
+}
+
+/// Derived stores settle, where no call is open: while one is pending, the one that was made first takes what its function gives on what its
+/// inputs hold. After a fault the world is what was done before it.
+pub fn settle(alloc: Global, program: &Program, world: &mut World) -> Result<(), EvalError>
+    ensures { EndsAs (λ u. u) result world.new (settle program.now world.old) }
+{
+    sv_eval::settle(&page_context(alloc, program), world)
 }
 
 // Nobody's code: the page itself.

@@ -5,6 +5,7 @@ use Rattle.std.specs.List.{list_any}
 use Rattle.std.proofs.lemmas.Bool.{cases_eq, cases_Bool, and_parts, not-true, eq-eqb, ne_eqb}
 use Rattle.sv_value.specs.Value.{Val}
 use Rattle.sv_numbered.specs.Numbered.{at, altered}
+use Rattle.sv_derived.specs.Derived.{marked}
 use Rattle.sv_store.specs.Stores.{Subscriber, same_subscriber, with_value, subscribers_at, differs_at}
 use Rattle.sv_instance.specs.Cells as cells
 use Rattle.sv_instance.specs.declared.instance.Instance.{Instance}
@@ -107,7 +108,11 @@ calm-told : (ps : List Subscriber) (v : Val) (s : States) → IsCalm s → IsCal
 calm-told [] v s k = k
 calm-told (p ∷ ps) v s k = calm-told ps v (taken s p v) (calm-taken s p v k)
 
-pub calm-value : (s : States) (id : ℕ) (v : Val) → IsCalm s → IsCalm (record s { stores = with_value s.stores id v })
+-- a store alone takes the value, and what is derived of it is pending
+abbrev pub store_stored : States → ℕ → Val → States
+store_stored s id v = record s { stores = with_value s.stores id v; derived = marked s.derived id }
+
+pub calm-value : (s : States) (id : ℕ) (v : Val) → IsCalm s → IsCalm (store_stored s id v)
 calm-value s id v k = record {
   seen = k.seen;
   queued = k.queued;
@@ -117,7 +122,7 @@ calm-value s id v k = record {
 
 calm-set : (s : States) (id : ℕ) (v : Val) → IsCalm s → IsCalm (store_set s id v)
 calm-set s id v k = ⊎_elim
-    (λ b. rw b (calm-told (subscribers_at s.stores id) v (record s { stores = with_value s.stores id v }) (calm-value s id v k)))
+    (λ b. rw b (calm-told (subscribers_at s.stores id) v (store_stored s id v) (calm-value s id v k)))
     (λ b. rw b k)
     (cases_Bool (differs_at s.stores id v))
 

@@ -3,7 +3,7 @@ use Rattle.std.proofs.Common.{◌≡◌, ◌≢◌, ℕ, List, [], ◌∷◌, Op
 use Rattle.std.specs.Prelude.{not, ◌&&◌}
 use Rattle.std.proofs.lemmas.Bool.{cases_eq, cases_Bool, and_parts}
 use Rattle.sv_value.specs.Value.{Val}
-use Rattle.sv_store.specs.Stores.{Subscriber, with_value, subscribers_at, differs_at}
+use Rattle.sv_store.specs.Stores.{Subscriber, subscribers_at, differs_at}
 use Rattle.sv_instance.specs.Cells as cells
 use Rattle.sv_instance.specs.declared.instance.Instance.{Instance}
 use Rattle.sv_states.specs.States.{States, live, with_instance}
@@ -11,7 +11,7 @@ use Rattle.sv_states.specs.Waiting.{is_waiting, has_shown, joins, queued, enqueu
 use Rattle.sv_states.specs.Assignment.{changes_in, cell_stored, handing, taken, told, store_set, end_set, written}
 use Rattle.sv_states.specs.Sound.{has_changed, IsSound}
 use Rattle.sv_states.proofs.Altering.{at-altered_same, at-altered_other}
-use Rattle.sv_states.proofs.Calm.{IsCalm, enqueued-idle, enqueued-joins}
+use Rattle.sv_states.proofs.Calm.{IsCalm, store_stored, enqueued-idle, enqueued-joins}
 use Rattle.sv_states.proofs.Due.{AllDue}
 
 -- an instance with a changed cell waits
@@ -80,7 +80,7 @@ wait-told (p ∷ ps) v E s all = wait-told ps v E (taken s p v) (wait-taken E s 
 
 wait-set : (id : ℕ) (v : Val) (E : ℕ → Type 0) (s : States) → AllWait E s → AllWait E (store_set s id v)
 wait-set id v E s all = ⊎_elim
-    (λ b. rw b (wait-told (subscribers_at s.stores id) v E (record s { stores = with_value s.stores id v }) all))
+    (λ b. rw b (wait-told (subscribers_at s.stores id) v E (store_stored s id v) all))
     (λ b. rw b all)
     (cases_Bool (differs_at s.stores id v))
 

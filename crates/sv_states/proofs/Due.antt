@@ -6,7 +6,7 @@ use Rattle.std.proofs.lemmas.List.{get_or-set_same, get_or-set_other, get_or_pas
 use Rattle.sv_value.specs.Value.{Val}
 use Rattle.sv_value.specs.Change.{differs}
 use Rattle.sv_view.specs.Cell.{Cell}
-use Rattle.sv_store.specs.Stores.{Subscriber, with_value, subscribers_at, differs_at}
+use Rattle.sv_store.specs.Stores.{Subscriber, subscribers_at, differs_at}
 use Rattle.sv_instance.specs.Cells.{Cells, cell_at, count_of, has_moved, is_dirty_since, is_dirty, changes, changes_cell, assigned_cell, assigned, touched_cell, touched}
 use Rattle.sv_instance.specs.declared.instance.Instance.{Instance}
 use Rattle.sv_states.specs.States.{States, live, with_instance, is_dirty_in}
@@ -15,7 +15,7 @@ use Rattle.sv_states.specs.Assignment.{changes_in, cell_stored, handing, taken, 
 use Rattle.sv_states.specs.Sound.{IsLater, IsSeen, DirtyCell}
 use Rattle.sv_states.proofs.Altering.{at-altered_same, at-altered_other, option_cases}
 use Rattle.sv_states.proofs.Later.{IsSeenBy}
-use Rattle.sv_states.proofs.Calm.{each_altered, IsCalm, enqueued-idle, enqueued-joins, calm-stored, calm-handing, calm-value}
+use Rattle.sv_states.proofs.Calm.{each_altered, IsCalm, store_stored, enqueued-idle, enqueued-joins, calm-stored, calm-handing, calm-value}
 
 -- ---- cells
 
@@ -175,11 +175,11 @@ follows-told (p ∷ ps) v =
 follows-set : (id : ℕ) (v : Val) → Follows (λ s. store_set s id v)
 follows-set id v = record {
   dirty = λ s k n c h. ⊎_elim
-      (λ b. rw b ((follows-told (subscribers_at s.stores id) v).dirty (record s { stores = with_value s.stores id v }) (calm-value s id v k) n c h))
+      (λ b. rw b ((follows-told (subscribers_at s.stores id) v).dirty (store_stored s id v) (calm-value s id v k) n c h))
       (λ b. rw b h)
       (cases_Bool (differs_at s.stores id v));
   due = λ s k all. ⊎_elim
-      (λ b. rw b ((follows-told (subscribers_at s.stores id) v).due (record s { stores = with_value s.stores id v }) (calm-value s id v k) all))
+      (λ b. rw b ((follows-told (subscribers_at s.stores id) v).due (store_stored s id v) (calm-value s id v k) all))
       (λ b. rw b all)
       (cases_Bool (differs_at s.stores id v));
 }

@@ -5,6 +5,7 @@ use Rattle.std.proofs.lemmas.Bool.{cases_eq, cases_lt}
 use Rattle.std.proofs.lemmas.List.{get_or-set_same, get_or-set_other, get_or_past, get_or_append_left, get_or_push, length_push}
 use Rattle.std.proofs.lemmas.List.Sums.{sum_by-set, sum_by_push}
 use Rattle.sv_numbered.specs.Numbered.{at, altered}
+use Rattle.sv_derived.specs.Derived.{Derived, frozen}
 use Rattle.sv_store.specs.Stores.{Store, dropped}
 use Rattle.sv_states.specs.Change.{removed}
 use Rattle.sv_instance.specs.Cells.{Cells, count_at, snapped as snapped_cells}
@@ -19,9 +20,9 @@ use Rattle.sv_states.proofs.Altering.{altered-none, altered-some, count-altered,
 use Rattle.sv_states.proofs.Ready.{counted-altered, counts_of}
 use Rattle.sv_states.proofs.Times.{without-absent, length-without}
 
-pub same_states : (l m : List (Option Instance)) (stores : List Store) (q r : List ℕ) (setting : Option ℕ) → l ≡ m → q ≡ r
-    → ◌≡◌ {A = States} (record { lives = l; stores = stores; queue = q; setting = setting }) (record { lives = m; stores = stores; queue = r; setting = setting })
-same_states l m stores q r setting e f = λ k. record { lives = e k; stores = stores; queue = f k; setting = setting }
+pub same_states : (l m : List (Option Instance)) (stores : List Store) (q r : List ℕ) (derived : List Derived) → l ≡ m → q ≡ r
+    → ◌≡◌ {A = States} (record { lives = l; stores = stores; derived = derived; queue = q }) (record { lives = m; stores = stores; derived = derived; queue = r })
+same_states l m stores q r derived e f = λ k. record { lives = e k; stores = stores; derived = derived; queue = f k }
 
 module _ (b : Board) (n : ℕ) (k : IsKept b) where
   -- who isn't live or doesn't wait isn't in the queue
@@ -34,12 +35,12 @@ module _ (b : Board) (n : ℕ) (k : IsKept b) where
 
   -- a snapshot of an instance that isn't live changes nothing
   pub snapped-none : at b.lives n ≡ None → seen_as b ≡ snapped (seen_as b) n
-  snapped-none none = same_states b.lives (altered shown b.lives n) b.stores b.queue.order (without b.queue.order n) b.setting (sym (altered-none shown b.lives n none)) (sym (absent (ap is_waiting none)))
+  snapped-none none = same_states b.lives (altered shown b.lives n) b.stores b.queue.order (without b.queue.order n) b.derived (sym (altered-none shown b.lives n none)) (sym (absent (ap is_waiting none)))
 
   module _ (i : Instance) (there : Some i ≡ at b.lives n) (cs : Cells) (taken : cs ≡ snapped_cells i.cells) where
     -- an instance that doesn't wait has its snapshot taken
-    pub snapped-idle : i.queued ≡ false → ◌≡◌ {A = States} (record { lives = slice_set b.lives n (Some (record i { cells = cs })); stores = b.stores; queue = b.queue.order; setting = b.setting }) (snapped (seen_as b) n)
-    snapped-idle idle = same_states (slice_set b.lives n (Some (record i { cells = cs }))) (altered shown b.lives n) b.stores b.queue.order (without b.queue.order n) b.setting
+    pub snapped-idle : i.queued ≡ false → ◌≡◌ {A = States} (record { lives = slice_set b.lives n (Some (record i { cells = cs })); stores = b.stores; derived = b.derived; queue = b.queue.order }) (snapped (seen_as b) n)
+    snapped-idle idle = same_states (slice_set b.lives n (Some (record i { cells = cs }))) (altered shown b.lives n) b.stores b.queue.order (without b.queue.order n) b.derived
         ((λ j. slice_set b.lives n (Some (record i { cells = taken j; queued = idle j }))) ∙ sym (altered-some shown b.lives n i (sym there)))
         (sym (absent (ap is_waiting (sym there) ∙ idle)))
 
@@ -86,9 +87,9 @@ module _ (lives : List (Option Instance)) (n : ℕ) (i : Instance) (there : Some
       (λ other. let e = ap (λ o. count_in o c) (get_or-set_other lives n m None None other) in let a = all m c in omega (arith, e, a))
       (cases_eq m n)
 
-module _ (b : Board) (n : ℕ) (k : IsKept b) (i : Instance) (there : Some i ≡ at b.lives n) (lives : List (Option Instance)) (gone : lives ≡ slice_set b.lives n None) (stores : List Store) where
+module _ (b : Board) (n : ℕ) (k : IsKept b) (i : Instance) (there : Some i ≡ at b.lives n) (lives : List (Option Instance)) (gone : lives ≡ slice_set b.lives n None) (stores : List Store) (derived : List Derived) where
   -- one that waited leaves the queue
-  pub ready_removed : (q : Queue) → i.queued ≡ true → q ≡ record b.queue { order = without b.queue.order n } → IsReady (record b { lives = lives; stores = stores; queue = q })
+  pub ready_removed : (q : Queue) → i.queued ≡ true → q ≡ record b.queue { order = without b.queue.order n } → IsReady (record b { lives = lives; stores = stores; derived = derived; queue = q })
   ready_removed q waits is =
       let less = gone_count b.lives n i there is_waiting refl in
       let one : ◌≡◌ {A = ℕ} (cond i.queued 1 0) 1 = ap (λ w. cond w 1 0) waits in
@@ -108,7 +109,7 @@ module _ (b : Board) (n : ℕ) (k : IsKept b) (i : Instance) (there : Some i ≡
       }
 
   -- one that didn't wait
-  pub ready_gone : i.queued ≡ false → IsReady (record b { lives = lives; stores = stores })
+  pub ready_gone : i.queued ≡ false → IsReady (record b { lives = lives; stores = stores; derived = derived })
   ready_gone idle =
       let less = gone_count b.lives n i there is_waiting refl in
       let zero' : ◌≡◌ {A = ℕ} (cond i.queued 1 0) 0 = ap (λ w. cond w 1 0) idle in
@@ -123,10 +124,14 @@ module _ (b : Board) (n : ℕ) (k : IsKept b) (i : Instance) (there : Some i ≡
         counted = subst (IsCounted b.clock) (sym gone) (gone_counted b.lives n i there b.clock k.ready.counted);
       }
 
+-- what a live instance made is frozen when it goes
+abbrev pub frozen_if : Option Instance → List Derived → ℕ → List Derived
+frozen_if o derived n = cond (is_some o) (frozen derived n) derived
+
 -- who didn't wait leaves the queue as it was
 pub removed-idle : (b : Board) (n : ℕ) (k : IsKept b) → is_waiting (at b.lives n) ≡ false → (lives : List (Option Instance)) → lives ≡ slice_set b.lives n None → (stores : List Store) → stores ≡ dropped b.stores n
-    → ◌≡◌ {A = States} (record { lives = lives; stores = stores; queue = b.queue.order; setting = b.setting }) (removed (seen_as b) n)
-removed-idle b n k idle lives gone stores drops = λ j. record { lives = gone j; stores = drops j; queue = sym (absent b n k idle) j; setting = b.setting }
+    → (derived : List Derived) → derived ≡ frozen_if (at b.lives n) b.derived n → ◌≡◌ {A = States} (record { lives = lives; stores = stores; derived = derived; queue = b.queue.order }) (removed (seen_as b) n)
+removed-idle b n k idle lives gone stores drops derived freezes = λ j. record { lives = gone j; stores = drops j; derived = freezes j; queue = sym (absent b n k idle) j }
 
 -- one more instance, which has changed nothing
 pub ready_added : (b : Board) (i : Instance) → IsReady b → IsNew i → (lives : List (Option Instance)) → lives ≡ b.lives ++ Some i ∷ [] → (q : Queue) → q.order ≡ b.queue.order → count_by is_some b.lives + 1 ≤ q.room → IsReady (record b { lives = lives; queue = q })

@@ -11,4 +11,5 @@ pub mod Calm
 pub mod Due
 pub mod Dirt
 pub mod Sounding
+pub mod Making
 pub mod Keeping

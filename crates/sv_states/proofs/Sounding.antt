@@ -10,6 +10,7 @@ use Rattle.sv_value.specs.Value.{Val}
 use Rattle.sv_view.specs.Cell.{Cell}
 use Rattle.sv_view.specs.Level.{View}
 use Rattle.sv_numbered.specs.Numbered.{at, altered}
+use Rattle.sv_derived.specs.Derived.{Derived, Recipe, with_one, done}
 use Rattle.sv_store.specs.Stores.{Store, Subscriber, same_subscriber, made, subscribers_at, value_at, changed_at, with_subscriber, is_subscribed, subscribed, is_other, dropped}
 use Rattle.sv_instance.specs.Cells as cells
 use Rattle.sv_instance.specs.Bound.{Bound}
@@ -17,8 +18,8 @@ use Rattle.sv_instance.specs.declared.instance.Instance.{Instance}
 use Rattle.sv_instance.specs.declared.setup.Setup.{Setup}
 use Rattle.sv_states.specs.States.{States, live, with_instance, has_cell, value_in}
 use Rattle.sv_states.specs.Waiting.{is_waiting, has_shown, enqueued, without, times, shown, snapped}
-use Rattle.sv_states.specs.Assignment.{Way, sent, sent_if, with_bound, bound_up, way_of, taken}
-use Rattle.sv_states.specs.Change.{with_setup, added, removed, declared, with_view, viewed, with_store, given, with_subscription, subscribed_over, subscribed_to}
+use Rattle.sv_states.specs.Assignment.{Way, sent, sent_if, with_bound, bound_up, way_of, taken, computed}
+use Rattle.sv_states.specs.Change.{with_setup, added, removed, declared, with_view, viewed, with_store, with_derived, given, with_subscription, subscribed_over, subscribed_to}
 use Rattle.sv_states.specs.Prepared.{IsNew}
 use Rattle.sv_states.specs.Sound.{DirtyCell, IsLater, IsSeen, is_to, has_subscription, is_subscriber, IsSound}
 use Rattle.sv_states.proofs.Altering.{at-altered_same, at-altered_none, at-altered_other, option_cases}
@@ -136,6 +137,16 @@ sound-store s v k = record {
   due = k.due;
   subscribed = λ n c id. ap (list_any (same_subscriber (record { inst = n; cell = c }))) (subscribers-made s.stores v id) ∙ k.subscribed n c id;
 }
+
+-- who derives a store is told nowhere else
+sound-graph : (s : States) (derived : List Derived) → IsSound s → IsSound (record s { derived = derived })
+sound-graph s derived k = record { seen = k.seen; queued = k.queued; shown = k.shown; dirty = k.dirty; due = k.due; subscribed = k.subscribed }
+
+pub sound-derived : (s : States) (owner : ℕ) (r : Recipe) (v : Val) → IsSound s → IsSound (with_derived s owner r v)
+sound-derived s owner r v k = sound-graph (with_store s v) (with_one s.derived (length s.stores) owner r) (sound-store s v k)
+
+pub sound-computed : (s : States) (id : ℕ) (v : Val) → IsSound s → IsSound (computed s id v)
+sound-computed s id v k = sound-sent (record s { derived = done s.derived id }) (record { cells = []; store = Some id }) v (sound-graph s (done s.derived id) k)
 
 -- a fact of each instance, with one more, which has the place behind the last
 each_added : (P : ℕ → Option Instance → Type 0) (lives : List (Option Instance)) (i : Instance) → ((m : ℕ) → P m (at lives m)) → (P (length lives) None → P (length lives) (Some i)) → (m : ℕ) → P m (at (lives ++ Some i ∷ []) m)

@@ -3,6 +3,7 @@ use Rattle.std.proofs.Common.{◌≡◌, ℕ, zero, suc, List, [], ◌∷◌, �
 use Rattle.std.specs.Prelude.{not, ◌&&◌}
 use Rattle.std.proofs.lemmas.Bool.{and_parts}
 use Rattle.sv_value.specs.Value.{Val}
+use Rattle.sv_derived.specs.Derived.{Derived, marked}
 use Rattle.sv_store.specs.Stores.{Store, Subscriber, with_value, differs_at, value_at, subscribers_at, is_subscribed, subscribed}
 use Rattle.sv_numbered.specs.Numbered.{at, altered, altered_over}
 use Rattle.sv_instance.specs.Bound.{Bound}
@@ -31,13 +32,13 @@ with_value-same (s ∷ stores) zero v e = rw e refl
 with_value-same (s ∷ stores) (suc id) v e = ap (λ l. s ∷ l) (with_value-same stores id v e)
 
 module _ (b : Board) (id : ℕ) (v w : Val) (stores : List Store) (same : w ≡ v) (is : stores ≡ with_value b.stores id w) where
-  pub set-told : (t : States) → differs_at b.stores id w ≡ true → t ≡ told (subscribers_at stores id) v (record (seen_as b) { stores = stores }) → t ≡ store_set (seen_as b) id v
-  set-told t differs' e =
+  pub set-told : (t : States) (derived : List Derived) → derived ≡ marked b.derived id → differs_at b.stores id w ≡ true → t ≡ told (subscribers_at stores id) v (record (seen_as b) { stores = stores; derived = derived }) → t ≡ store_set (seen_as b) id v
+  set-told t derived marks differs' e =
       let d : differs_at b.stores id v ≡ true = ap (differs_at b.stores id) (sym same) ∙ differs' in
       let set = is ∙ ap (with_value b.stores id) same in
-      e ∙ ap (λ l. told l v (record (seen_as b) { stores = stores })) (ap (λ l. subscribers_at l id) set ∙ subscribers-set b.stores id id v)
-      ∙ ap (λ l. told (subscribers_at b.stores id) v (record (seen_as b) { stores = l })) set
-      ∙ sym (let step : store_set (seen_as b) id v ≡ told (subscribers_at b.stores id) v (record (seen_as b) { stores = with_value b.stores id v }) = rw d refl in step)
+      e ∙ ap (λ l. told l v (record (seen_as b) { stores = stores; derived = derived })) (ap (λ l. subscribers_at l id) set ∙ subscribers-set b.stores id id v)
+      ∙ (λ k. told (subscribers_at b.stores id) v (record (seen_as b) { stores = set k; derived = marks k }))
+      ∙ sym (let step : store_set (seen_as b) id v ≡ told (subscribers_at b.stores id) v (record (seen_as b) { stores = with_value b.stores id v; derived = marked b.derived id }) = rw d refl in step)
 
   pub set-same : differs_at b.stores id w ≡ false → record (seen_as b) { stores = stores } ≡ store_set (seen_as b) id v
   set-same differs' =
@@ -66,6 +67,6 @@ module _ (b : Board) (p : Subscriber) (id : ℕ) (stores : List Store) (list : L
   subscribed-all v may e value told' next =
       let both : (is_some (live (seen_as b) p.inst) && not (is_subscribed b.stores p)) ≡ true = (and_parts (is_some (live (seen_as b) p.inst) && not (is_subscribed b.stores p)) (is_some (value_at b.stores id)) may).0 in
       next ∙ ap (λ q. given (seen_as q) p v) is
-      ∙ (λ k. given (record { lives = list_over (at b.lives p.inst) e k; stores = told' k; queue = b.queue.order; setting = b.setting }) p v)
+      ∙ (λ k. given (record { lives = list_over (at b.lives p.inst) e k; stores = told' k; derived = b.derived; queue = b.queue.order }) p v)
       ∙ ap (λ o. subscribed_over o (seen_as b) p id) (sym value)
       ∙ sym (let step : subscribed_to (seen_as b) p id ≡ subscribed_over (value_at b.stores id) (seen_as b) p id = rw both refl in step)

@@ -1,5 +1,6 @@
 -- The states as they are kept.
 use Rattle.std.specs.Prelude.{◌≡◌, ℕ, ◌≤◌, length, List, Option, is_some, count_by}
+use Rattle.sv_derived.specs.Order.{ids, AreBelow}
 use Rattle.sv_numbered.specs.Numbered.{at}
 use Rattle.sv_instance.specs.declared.instance.Instance.{Instance}
 use Rattle.sv_states.specs.States.{States, count_in}
@@ -8,7 +9,11 @@ use Rattle.sv_states.specs.Sound.{IsSound}
 use Rattle.sv_states.specs.declared.board.Board.{Board}
 
 abbrev pub seen_as : Board → States
-seen_as b = record { lives = b.lives; stores = b.stores; queue = b.queue.order; setting = b.setting }
+seen_as b = record { lives = b.lives; stores = b.stores; derived = b.derived; queue = b.queue.order }
+
+-- each derived store is a store
+abbrev pub IsMade : States → Type 0
+IsMade s = AreBelow (ids s.derived) (length s.stores)
 
 -- no cell changed more often than the clock tells
 abbrev pub IsCounted : ℕ → List (Option Instance) → Type 0
@@ -23,3 +28,4 @@ pub record IsReady (b : Board) : Type 0 where
 pub record IsKept (b : Board) : Type 0 where
   pub ready : IsReady b
   pub sound : IsSound (seen_as b)
+  pub made : IsMade (seen_as b)

@@ -1,5 +1,6 @@
 -- What else changes the states.
-use Rattle.std.specs.Prelude.{ℕ, suc, not, ◌&&◌, if◌then◌else◌, [], ◌∷◌, ◌++◌, Option, Some, None, is_some, slice_set}
+use Rattle.std.specs.Prelude.{ℕ, suc, not, ◌&&◌, if◌then◌else◌, [], ◌∷◌, ◌++◌, length, Option, Some, None, is_some, slice_set}
+use Rattle.sv_derived.specs.Derived.{Recipe, with_one, frozen}
 use Rattle.sv_numbered.specs.Numbered.{altered}
 use Rattle.sv_value.specs.Value.{Val}
 use Rattle.sv_view.specs.Level.{View}
@@ -29,9 +30,14 @@ place_below s component parent standing = record { component = component; depth 
 abbrev pub added : States → Instance → States
 added s i = record s { lives = s.lives ++ Some i ∷ [] }
 
--- an instance goes, with its subscriptions and its entry in the queue
+-- an instance goes, with its subscriptions and its entry in the queue; the derived stores that it made keep their values
 abbrev pub removed : States → ℕ → States
-removed s n = record s { lives = slice_set s.lives n None; stores = dropped s.stores n; queue = without s.queue n }
+removed s n = record s {
+  lives = slice_set s.lives n None;
+  stores = dropped s.stores n;
+  derived = if is_some (live s n) then frozen s.derived n else s.derived;
+  queue = without s.queue n;
+}
 
 -- a cell gets its first value
 abbrev pub declared : States → Subscriber → Val → States
@@ -47,6 +53,10 @@ viewed s n c view = if has_cell (live s n) c then enqueued (with_instance (with_
 -- one more store
 abbrev pub with_store : States → Val → States
 with_store s v = record s { stores = made s.stores v }
+
+-- one more store, which is computed by a recipe
+abbrev pub with_derived : States → ℕ → Recipe → Val → States
+with_derived s owner recipe v = record s { stores = made s.stores v; derived = with_one s.derived (length s.stores) owner recipe }
 
 -- the first value of a cell, or a value that it takes
 abbrev pub given : States → Subscriber → Val → States

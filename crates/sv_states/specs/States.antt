@@ -3,18 +3,19 @@ use Rattle.std.specs.Prelude.{ℕ, Bool, false, List, length, Option, Some, None
 use Rattle.sv_numbered.specs.Numbered.{at, altered}
 use Rattle.sv_value.specs.Value.{Val}
 use Rattle.sv_view.specs.Cell.{Cell}
+use Rattle.sv_derived.specs.Derived.{Derived, found}
 use Rattle.sv_store.specs.Stores.{Store}
 use Rattle.sv_instance.specs.Cells as cells
 use Rattle.sv_instance.specs.declared.instance.Instance.{Instance}
 use Rattle.sv_instance.specs.declared.setup.Setup.{Setup}
 
--- the live instances by number, the stores, the numbers of those that wait for an update, in order, and the instance whose
--- props are being set
+-- the live instances by number, the stores, those of them that are derived, and the numbers of the instances that wait for an update, in
+-- order
 pub record States : Type 0 where
   pub lives : List (Option Instance)
   pub stores : List Store
+  pub derived : List Derived
   pub queue : List ℕ
-  pub setting : Option ℕ
 
 abbrev pub live : States → ℕ → Option Instance
 live s n = at s.lives n
@@ -61,3 +62,7 @@ is_dirty_in (Some i) c = cells.is_dirty i.cells c
 abbrev pub setup_of : Option Instance → Option Setup
 setup_of None = None
 setup_of (Some i) = Some i.setup
+
+-- whether a store is a derived one
+abbrev pub is_derived : States → ℕ → Bool
+is_derived s id = is_some (found s.derived id)

@@ -1,5 +1,5 @@
 -- Ways as they are kept.
-use Rattle.std.specs.Prelude.{ℕ, suc, Bool, true, false, List, ◌++◌, length, map, Option, Some, None}
+use Rattle.std.specs.Prelude.{ℕ, suc, List, ◌++◌, length, map, Option, Some, None}
 use Rattle.sv_store.specs.Kept.{subscriber_of}
 use Rattle.sv_store.specs.Stores.{Store, Subscriber, subscribers_at}
 use Rattle.sv_instance.specs.Bound.{Bound}
@@ -19,7 +19,6 @@ abbrev pub behind : seen.Way → seen.Way → seen.Way
 behind v w = record { cells = v.cells ++ w.cells; store = w.store }
 
 -- the variable that the value goes on to
-abbrev pub above : Bool → Option Bound → Option Subscriber
-above true b = None
-above false None = None
-above false (Some b) = Some (record { inst = b.owner; cell = b.target })
+abbrev pub above : Option Bound → Option Subscriber
+above None = None
+above (Some b) = Some (record { inst = b.owner; cell = b.target })

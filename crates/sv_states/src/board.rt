@@ -15,19 +15,20 @@ use crate::queue::Queue;
 use crate::way::Way;
 use std::alloc::Global;
 use sv_base::NoMemory;
+use sv_derived::Graph;
 use sv_instance::Instance;
 use sv_numbered::Numbered;
 use sv_store::{Stores, Sub};
 use sv_value::{Inst, Value};
 
-// The live instances, the stores, who waits for an update, and the instance whose props are being set. The clock tells how
-// often a cell changed at most, so that no count is ever exhausted in the middle of an assignment.
+// The live instances, the stores, which of them are derived, and who waits for an update. The clock tells how often a cell
+// changed at most, so that no count is ever exhausted in the middle of an assignment.
 #[derive(Drop)]
 pub(crate) struct Board {
     pub(crate) lives: Numbered<Instance>,
     pub(crate) stores: Stores,
+    pub(crate) derived: Graph,
     pub(crate) queue: Queue,
-    pub(crate) setting: Option<u64>,
     pub(crate) clock: u64,
 }
 
@@ -132,7 +133,7 @@ impl Board {
         }
     }
 
-    // A store takes a value, and its subscribers.
+    // A store takes a value; what is derived of it is pending, and its subscribers take it.
     fn set_store(&mut self, id: u32, copies: &mut Copies)
         requires ready { IsReady self.old }
         requires enough { length (subscribers_at self.old.stores id) < copies.old.left }
@@ -141,6 +142,7 @@ impl Board {
         ensures ready { IsReady self.new }
     {
         if self.stores.set(id, copies.take()) {
+            self.derived.mark(id);
             self.tell(id, copies);
         }
     }

@@ -8,7 +8,7 @@ ghost use Rattle.sv_instance.specs.Binds.{bound_of};
 ghost use Rattle.sv_instance.specs.Dirty.{is_among};
 ghost use Rattle.sv_states.specs.States.{with_instance, value_in, cell_in, has_cell, cell_count, is_dirty_in};
 ghost use Rattle.sv_states.specs.Waiting.{snapped};
-ghost use Rattle.sv_states.specs.Assignment.{sent, bound_up, with_bound};
+ghost use Rattle.sv_states.specs.Assignment.{sent, handed_down, is_bound_to_fixed, bound_up, with_bound};
 ghost use Rattle.sv_states.specs.Change.{depth_above, added, removed, declared, with_view, viewed, given, subscribed_to};
 ghost use Rattle.sv_states.specs.Prepared.{IsPrepared, with_subscriptions, IsNew};
 ghost use Rattle.sv_states.specs.Ways.{way_seen};
@@ -34,6 +34,32 @@ impl Board {
         let mut copies = self.copies(alloc, way, value)?;
         self.write(&way.cells, way.store, &mut copies);
         Ok(())
+    }
+
+    // A prop takes what its owner hands down.
+    pub(crate) fn hand_down(&mut self, at: Sub, value: Value) -> Result<(), NoMemory>
+        requires { IsReady self.old }
+        ensures ok { OnOk result (seen_as self.new ≡ handed_down (seen_as self.old) (subscriber_of at) (view_of value)) }
+        ensures ready { OnOk result (IsReady self.new) }
+        ensures err { OnErr result (self.new ≡ self.old) }
+    {
+        if self.clock == u64::MAX {
+            drop(value);
+            return Err(NoMemory);
+        }
+        self.take(at, value);
+        Ok(())
+    }
+
+    // Whether a derived store would be set if a prop were bound.
+    pub(crate) fn is_bound_to_fixed(&self, inst: Inst, bound: Bound) -> bool
+        ensures { result ≡ is_bound_to_fixed (seen_as self.now) inst.number (bound_of bound) }
+    {
+        let variable = Sub {
+            inst: bound.owner,
+            cell: bound.target,
+        };
+        self.cell(inst, bound.cell).is_some() && self.is_read_only(variable)
     }
 
     // A prop is bound, and its value goes the way of the owner's variable.
@@ -121,7 +147,7 @@ impl Board {
         self.lives.add(instance)
     }
 
-    // An instance goes, with its subscriptions and its entry in the queue.
+    // An instance goes, with its subscriptions and its entry in the queue; the derived stores that it made are frozen.
     pub(crate) fn remove(&mut self, inst: Inst)
         requires { IsKept self.old }
         ensures states { seen_as self.new ≡ removed (seen_as self.old) inst.number }
@@ -129,6 +155,7 @@ impl Board {
     {
         self.stores.drop_of(inst);
         if let Some(instance) = self.lives.remove(inst) {
+            self.derived.freeze(inst);
             if instance.queued {
                 self.queue.leave(inst.number);
             }

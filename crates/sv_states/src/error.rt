@@ -1,4 +1,4 @@
-// Why an instance isn't made.
+// Why something isn't done.
 use sv_base::NoMemory;
 use thiserror::Error;
 
@@ -21,5 +21,27 @@ impl From<NoMemory> for AddError {
 
     fn from(_: NoMemory) -> AddError {
         AddError::NoMemory
+    }
+}
+
+/// Why a value isn't assigned.
+#[derive(Clone, Copy, Debug, PartialEq, Eq, Error)]
+pub enum AssignError {
+    /// A derived store would be set.
+    #[error("a derived store is not set")]
+    ReadOnly,
+    /// There was no memory for it.
+    #[error("out of memory")]
+    NoMemory,
+}
+
+impl From<NoMemory> for AssignError {
+    ghost use Rattle.std.specs.Prelude.{◌≡◌};
+    ghost use Rattle.sv_states.specs.declared.error.AssignError.TheVariants.{NoMemory as no_memory};
+
+    ghost from_gives = { λ _ e. e ≡ no_memory };
+
+    fn from(_: NoMemory) -> AssignError {
+        AssignError::NoMemory
     }
 }

@@ -5,10 +5,11 @@ mod board;
 mod change;
 mod context;
 mod copies;
+mod derived;
 mod error;
 mod queue;
 mod states;
 mod way;
 
-pub use error::AddError;
+pub use error::{AddError, AssignError};
 pub use states::{DEPTH_LIMIT, States};

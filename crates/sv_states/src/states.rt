@@ -1,29 +1,32 @@
 // The states of all components.
-ghost use Rattle.std.specs.Prelude.{◌≡◌, ◌≤◌, ◌<◌, ◌↔◌, ℕ, length, IfOk, OnOk, OnErr, Some, None, is_some, count_by, slice_get, option_map, option_copied};
+ghost use Rattle.std.specs.Prelude.{◌≡◌, ◌≤◌, ◌<◌, ◌↔◌, ℕ, true, length, Err, IfOk, OnOk, OnErr, Some, None, is_some, count_by, slice_get, option_map, option_copied};
 ghost use Rattle.std.specs.Option.{option_copied_mut};
 ghost use Rattle.std.specs.Borrow.{sem};
 ghost use Rattle.sv_value.specs.View.{view_of};
+ghost use Rattle.sv_derived.specs.Derived.{found, next};
+ghost use Rattle.sv_derived.specs.Order.{ids, AreBelow, IsOrdered};
 ghost use Rattle.sv_store.specs.Stores.{value_at, subscription_count, IsOnce};
 ghost use Rattle.sv_store.specs.Kept.{subscriber_of};
 ghost use Rattle.sv_instance.specs.Place.{inst_number, standing_of};
 ghost use Rattle.sv_instance.specs.Instance.{born};
 ghost use Rattle.sv_instance.specs.Binds.{bound_of};
 ghost use Rattle.sv_instance.specs.Dirty.{is_among};
-ghost use Rattle.sv_states.specs.States.{live, setup_of, cell_count, is_dirty_in};
+ghost use Rattle.sv_states.specs.States.{live, setup_of, cell_count, is_dirty_in, is_derived};
 ghost use Rattle.sv_states.specs.Waiting.{snapped};
-ghost use Rattle.sv_states.specs.Assignment.{assigned, store_set, bound_up};
-ghost use Rattle.sv_states.specs.Change.{depth_above, place_below, added, removed, declared, viewed, with_store, subscribed_to};
+ghost use Rattle.sv_states.specs.Assignment.{assigned, is_read_only, handed_down, store_set, computed, bound_up, is_bound_to_fixed};
+ghost use Rattle.sv_states.specs.Change.{depth_above, place_below, added, removed, declared, viewed, with_store, with_derived, subscribed_to};
 ghost use Rattle.sv_states.specs.Context.{context_of};
 ghost use Rattle.sv_states.specs.Sound.{IsSound};
 ghost use Rattle.sv_states.specs.Empty.{no_states};
 
 use crate::board::Board;
-use crate::error::AddError;
+use crate::error::{AddError, AssignError};
 use crate::queue::Queue;
 use crate::way::Way;
 use std::alloc::Global;
 use std::marker::Model;
 use sv_base::NoMemory;
+use sv_derived::{Derived, Graph, Recipe};
 use sv_instance::{Bound, Dirty, Instance, Place, Setup, Standing, Subscription};
 use sv_numbered::Numbered;
 use sv_store::{Stores, Sub};
@@ -33,8 +36,8 @@ use sv_view::View;
 /// How deep an instance may be, the root being 1.
 pub const DEPTH_LIMIT: u32 = 64;
 
-/// The live instances by number, the stores, who waits for an update, and the instance whose props are being set. Calls take
-/// any instance, cell or store: what isn't there changes nothing.
+/// The live instances by number, the stores, which of them are derived, and who waits for an update. Calls take any instance,
+/// cell or store: what isn't there changes nothing.
 #[derive(Drop)]
 pub struct States {
     alloc: Global,
@@ -44,12 +47,13 @@ pub struct States {
 impl Model for States {
     ghost use Rattle.sv_states.specs.States.{States};
     ghost use Rattle.std.specs.Coded.{codes};
+    ghost use Rattle.sv_derived.specs.Derived.{derived_code};
     ghost use Rattle.sv_store.specs.Stores.{store_code};
     ghost use Rattle.sv_instance.specs.contracts.instance.Instance as instance;
 
     ghost Value = { States };
 
-    ghost coded = { Prim.hlevel (codes, store_code, instance.the_row.coded) };
+    ghost coded = { Prim.hlevel (codes, store_code, derived_code, instance.the_row.coded) };
 
     ghost use Rattle.sv_states.specs.Board.{seen_as, IsKept};
 
@@ -68,22 +72,25 @@ impl States {
         let board = Board {
             lives: Numbered::new(alloc),
             stores: Stores::new(alloc)?,
+            derived: Graph::new(alloc),
             queue: Queue::new(alloc),
-            setting: None,
             clock: 0,
         };
         Ok(States { alloc, board })
     }
 
     /// What holds at every moment: who has a changed cell is queued, and nobody else; the queue names live instances that have had a
-    /// snapshot, each once; a cell that changed as often as at the last snapshot is what it was; and the instances and the stores tell
-    /// the same subscriptions, each once.
+    /// snapshot, each once; a cell that changed as often as at the last snapshot is what it was; the instances and the stores tell the
+    /// same subscriptions, each once; and a derived store is a store, made after what it is derived of.
     pub fn facts(&self)
         ensures sound { IsSound self.now }
         ensures once { IsOnce self.now.stores }
+        ensures ordered { IsOrdered self.now.derived }
+        ensures made { AreBelow (ids self.now.derived) (length self.now.stores) }
     {
         let board = &self.board;
         let _count = board.stores.subscriptions();
+        let _derived = board.derived.len();
     }
 
     /// An instance, or `None` exactly where it isn't live.
@@ -138,6 +145,30 @@ impl States {
         board.stores.value(id)
     }
 
+    /// A derived store, or `None` exactly where a store isn't derived.
+    pub fn derived(&self, id: u32) -> Option<&Derived>
+        ensures { option_copied result ≡ found self.now.derived id }
+    {
+        let board = &self.board;
+        board.derived.get(id)
+    }
+
+    /// How many derived stores there are.
+    pub fn derived_count(&self) -> usize
+        ensures { result ≡ length self.now.derived }
+    {
+        let board = &self.board;
+        board.derived.len()
+    }
+
+    /// The derived store that has to be computed first, or `None` exactly where none has to be.
+    pub fn pending(&self) -> Option<u32>
+        ensures { result ≡ next self.now.derived }
+    {
+        let board = &self.board;
+        board.derived.next()
+    }
+
     /// What the instance or the closest one above it gave under a key, or `None` exactly where none did.
     pub fn context(&self, inst: Inst, key: &Key) -> Option<&Value>
         ensures { option_map view_of (option_copied result) ≡ context_of self.now inst.number key.now }
@@ -172,7 +203,7 @@ impl States {
         Ok(inst)
     }
 
-    /// An instance goes, with its subscriptions and its entry in the queue.
+    /// An instance goes, with its subscriptions and its entry in the queue; the derived stores that it made are frozen.
     pub fn remove(&mut self, inst: Inst)
         ensures { self.new ≡ removed self.old inst.number }
     {
@@ -190,36 +221,66 @@ impl States {
     }
 
     /// Assigns a cell. The store whose value it has is set in its place; else the value is stored where that counts as a
-    /// change, then handed up to the variable that the cell is bound to, and then the instance is queued.
-    pub fn assign(&mut self, at: Sub, value: Value) -> Result<(), NoMemory>
+    /// change, then handed up to the variable that the cell is bound to, and then the instance is queued. `ReadOnly` exactly
+    /// where a derived store would be set.
+    pub fn assign(&mut self, at: Sub, value: Value) -> Result<(), AssignError>
         ensures ok { OnOk result (self.new ≡ assigned self.old at.inst.number at.cell (view_of value)) }
+        ensures read_only { (result ≡ Err AssignError.ReadOnly) ↔ (is_read_only self.old at.inst.number at.cell ≡ true) }
         ensures err { OnErr result (self.new ≡ self.old) }
     {
         let board = &mut self.board;
+        if board.is_read_only(at) {
+            drop(value);
+            return Err(AssignError::ReadOnly);
+        }
         let way = board.way(self.alloc, at)?;
-        board.send(self.alloc, &way, value)
+        board.send(self.alloc, &way, value)?;
+        Ok(())
     }
 
-    /// Sets a store, where that counts as a change, and then assigns the cells of its subscribers in order.
-    pub fn set_store(&mut self, id: u32, value: Value) -> Result<(), NoMemory>
-        ensures ok { OnOk result (self.new ≡ store_set self.old id (view_of value)) }
+    /// A prop takes the value that its owner hands down, where that counts as a change, and its instance is queued; nothing is
+    /// handed up.
+    pub fn hand_down(&mut self, at: Sub, value: Value) -> Result<(), NoMemory>
+        ensures ok { OnOk result (self.new ≡ handed_down self.old (subscriber_of at) (view_of value)) }
         ensures err { OnErr result (self.new ≡ self.old) }
     {
         let board = &mut self.board;
+        board.hand_down(at, value)
+    }
+
+    /// Sets a store, where that counts as a change: what is derived of it is pending, and the cells of its subscribers are
+    /// assigned in order. `ReadOnly` exactly where it is a derived one.
+    pub fn set_store(&mut self, id: u32, value: Value) -> Result<(), AssignError>
+        ensures ok { OnOk result (self.new ≡ store_set self.old id (view_of value)) }
+        ensures read_only { (result ≡ Err AssignError.ReadOnly) ↔ (is_derived self.old id ≡ true) }
+        ensures err { OnErr result (self.new ≡ self.old) }
+    {
+        let board = &mut self.board;
+        if board.derived.get(id).is_some() {
+            drop(value);
+            return Err(AssignError::ReadOnly);
+        }
         let way = Way {
             cells: Vec::new(self.alloc),
             store: Some(id),
         };
-        board.send(self.alloc, &way, value)
+        board.send(self.alloc, &way, value)?;
+        Ok(())
     }
 
-    /// Binds a prop of an instance to a variable of its owner, which is assigned the prop's value.
-    pub fn bind_up(&mut self, inst: Inst, bound: Bound) -> Result<(), NoMemory>
+    /// Binds a prop of an instance to a variable of its owner, which is assigned the prop's value. `ReadOnly` exactly where a
+    /// derived store would be set.
+    pub fn bind_up(&mut self, inst: Inst, bound: Bound) -> Result<(), AssignError>
         ensures ok { OnOk result (self.new ≡ bound_up self.old inst.number (bound_of bound)) }
+        ensures read_only { (result ≡ Err AssignError.ReadOnly) ↔ (is_bound_to_fixed self.old inst.number (bound_of bound) ≡ true) }
         ensures err { OnErr result (self.new ≡ self.old) }
     {
         let board = &mut self.board;
-        board.bind_up(self.alloc, inst, bound)
+        if board.is_bound_to_fixed(inst, bound) {
+            return Err(AssignError::ReadOnly);
+        }
+        board.bind_up(self.alloc, inst, bound)?;
+        Ok(())
     }
 
     /// Gives an instance its owner's view, which counts as a change of the cell that stands for it. Where that cell's
@@ -253,6 +314,32 @@ impl States {
         board.stores.make(value)
     }
 
+    /// Makes a derived store, whose value was computed by a recipe; its number is the next one.
+    pub fn make_derived(
+        &mut self,
+        owner: Inst,
+        recipe: Recipe,
+        value: Value,
+    ) -> Result<u32, NoMemory>
+        requires { AreBelow recipe.inputs (length self.old.stores) }
+        ensures number { IfOk result (λ id. id ≡ length self.old.stores) }
+        ensures ok { OnOk result (self.new ≡ with_derived self.old owner.number recipe (view_of value)) }
+        ensures err { OnErr result (self.new ≡ self.old) }
+    {
+        let board = &mut self.board;
+        board.make_derived(owner, recipe, value)
+    }
+
+    /// A derived store was computed: it is no longer pending, and takes the value where that counts as a change. What is derived
+    /// of it is pending then, and the cells of its subscribers are assigned in order.
+    pub fn settle_one(&mut self, id: u32, value: Value) -> Result<(), NoMemory>
+        ensures ok { OnOk result (self.new ≡ computed self.old id (view_of value)) }
+        ensures err { OnErr result (self.new ≡ self.old) }
+    {
+        let board = &mut self.board;
+        board.settle_one(self.alloc, id, value)
+    }
+
     /// Subscribes a cell to a store, whose value it takes. Where the instance isn't live, the store was never made or the cell
     /// is subscribed to a store, nothing changes.
     pub fn subscribe(&mut self, at: Sub, store: u32) -> Result<(), NoMemory>
@@ -261,21 +348,5 @@ impl States {
     {
         let board = &mut self.board;
         board.subscribe(at, store)
-    }
-
-    /// From now on the props of an instance are being set, so that its bound props hand nothing up.
-    pub fn begin_setting(&mut self, inst: Inst)
-        ensures { self.new ≡ record self.old { setting = Some inst.number } }
-    {
-        let board = &mut self.board;
-        board.setting = Some(inst.number);
-    }
-
-    /// No instance's props are being set any more.
-    pub fn end_setting(&mut self)
-        ensures { self.new ≡ record self.old { setting = None } }
-    {
-        let board = &mut self.board;
-        board.setting = None;
     }
 }

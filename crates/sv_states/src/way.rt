@@ -6,7 +6,7 @@ ghost use Rattle.sv_instance.specs.Binds.{bound_of};
 ghost use Rattle.sv_instance.specs.Subscriptions.{store_at};
 ghost use Rattle.sv_states.specs.States.{live};
 ghost use Rattle.sv_states.specs.Assignment as seen;
-ghost use Rattle.sv_states.specs.Assignment.{way_of, is_setting};
+ghost use Rattle.sv_states.specs.Assignment.{way_of, is_read_only};
 ghost use Rattle.sv_states.specs.Ways.{way_seen, behind, above};
 ghost use Rattle.sv_states.specs.Board.{seen_as};
 
@@ -52,24 +52,49 @@ impl Board {
             return Ok(());
         }
         way.cells.push(at)?;
-        match self.above(instance, at) {
+        match above(instance, at.cell) {
             Some(variable) => self.follow(way, room - 1, variable),
             None => Ok(()),
         }
     }
 
-    // The variable that a cell is bound to, unless the owner is setting the props.
-    fn above(&self, instance: &Instance, at: Sub) -> Option<Sub>
-        ensures { option_map subscriber_of result ≡ above (is_setting self.now.setting at.inst.number) (bound_at instance.now.setup.bounds at.cell) }
+    // Whether a derived store would be set if a cell were assigned.
+    pub(crate) fn is_read_only(&self, from: Sub) -> bool
+        ensures { result ≡ is_read_only (seen_as self.now) from.inst.number from.cell }
     {
-        if self.setting == Some(at.inst.number) {
+        match self.end(self.depth(from.inst), from) {
+            Some(id) => self.derived.get(id).is_some(),
+            None => false,
+        }
+    }
+
+    // The store at the end of the way from a cell, through so many levels at most.
+    fn end(&self, room: u32, at: Sub) -> Option<u32>
+        ensures { result ≡ (seen.way room (seen_as self.now) at.inst.number at.cell).store }
+    {
+        if room == 0 {
             return None;
         }
-        let setup = &instance.setup;
-        let bound = setup.bounds.find(at.cell)?;
-        Some(Sub {
-            inst: bound.owner,
-            cell: bound.target,
-        })
+        let instance = self.lives.get(at.inst)?;
+        let store = instance.subscriptions.find(at.cell);
+        if store.is_some() {
+            return store;
+        }
+        match above(instance, at.cell) {
+            Some(variable) => self.end(room - 1, variable),
+            None => None,
+        }
     }
+}
+
+// The variable that a cell is bound to.
+fn above(instance: &Instance, cell: u8) -> Option<Sub>
+    ensures { option_map subscriber_of result ≡ above (bound_at instance.now.setup.bounds cell) }
+{
+    let setup = &instance.setup;
+    let bound = setup.bounds.find(cell)?;
+    Some(Sub {
+        inst: bound.owner,
+        cell: bound.target,
+    })
 }

@@ -76,6 +76,13 @@ impl Stores {
         Ok(id)
     }
 
+    /// How many stores there are.
+    pub fn len(&self) -> usize
+        ensures { result ≡ length self.now }
+    {
+        self.entries.len()
+    }
+
     /// The value of a store, or `None` exactly where it was never made.
     pub fn value(&self, id: u32) -> Option<&Value>
         ensures { option_map view_of (option_copied result) ≡ value_at self.now id }

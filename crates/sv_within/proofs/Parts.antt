@@ -57,6 +57,7 @@ module _ (tops : Tops) (cells locals names : List Ref) (top : IsTopOf tops cells
   cell_fine (Some (known.Export file k)) n e r l = tt
   cell_fine (Some (known.Life x)) n e r l = tt
   cell_fine (Some known.Writable) n e r l = tt
+  cell_fine (Some known.Derived) n e r l = tt
   cell_fine (Some (known.BuiltIn b)) n e r l = tt
 
   name_fine : (o : Option Known) (n : Ref) → known_in tops.known n ≡ o → has n names ≡ true → has n locals ≡ false → IsLookedAt looks (known_or o n)
@@ -67,6 +68,7 @@ module _ (tops : Tops) (cells locals names : List Ref) (top : IsTopOf tops cells
   name_fine (Some (known.Export file k)) n e r l = tt
   name_fine (Some (known.Life x)) n e r l = tt
   name_fine (Some known.Writable) n e r l = tt
+  name_fine (Some known.Derived) n e r l = tt
   name_fine (Some (known.BuiltIn b)) n e r l = tt
 
   -- one that is

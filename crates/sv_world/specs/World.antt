@@ -1,5 +1,5 @@
 -- The world in which scripts run.
-use Rattle.std.specs.Prelude.{ℕ, List, [], Option, option_map}
+use Rattle.std.specs.Prelude.{ℕ, List, [], Option, Some, None, option_map}
 use Rattle.sv_value.specs.Value.{Val}
 use Rattle.sv_view.specs.Level.{View}
 use Rattle.sv_view.specs.View.{started, with_constants}
@@ -29,3 +29,11 @@ presented_before owner s modules n = option_map (view_before owner modules n) (l
 -- the same, before the view that its owner handed it
 abbrev pub presented : States → List (List (Option Val)) → ℕ → Option View
 presented s modules n = option_map (present_view modules n) (live s n)
+
+abbrev pub constants_in : Option Instance → List (Option Val)
+constants_in None = []
+constants_in (Some i) = i.setup.constants
+
+-- the constants of an instance, or of none, and those of the module files: a view without cells
+abbrev pub constants_view : World → ℕ → View
+constants_view w n = with_constants (started n [] None) (constants_in (live w.states n)) w.modules

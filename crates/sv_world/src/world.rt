@@ -1,24 +1,24 @@
 // The world.
-ghost use Rattle.std.specs.Prelude.{◌≡◌, ◌≤◌, ◌<◌, ◌↔◌, ℕ, length, Err, IfOk, OnOk, OnErr, IsTrue, is_some, count_by, slice_get, option_map, option_copied};
+ghost use Rattle.std.specs.Prelude.{◌≡◌, ◌≤◌, ◌<◌, ◌↔◌, ℕ, true, length, Err, IfOk, OnOk, OnErr, IsTrue, is_some, count_by, slice_get, option_map, option_copied};
 ghost use Rattle.sv_value.specs.View.{view_of};
 ghost use Rattle.sv_store.specs.Stores.{subscription_count};
 ghost use Rattle.sv_instance.specs.Place.{inst_number, standing_of};
 ghost use Rattle.sv_instance.specs.Instance.{born};
 ghost use Rattle.sv_instance.specs.Dirty.{is_among};
-ghost use Rattle.sv_states.specs.States.{live, cell_in, cell_count, is_dirty_in};
+ghost use Rattle.sv_states.specs.States.{live, cell_in, cell_count, is_dirty_in, is_derived};
 ghost use Rattle.sv_states.specs.Waiting.{snapped};
-ghost use Rattle.sv_states.specs.Assignment.{assigned, store_set, bound_up};
+ghost use Rattle.sv_states.specs.Assignment.{assigned, is_read_only, store_set, bound_up, is_bound_to_fixed};
 ghost use Rattle.sv_states.specs.Change.{depth_above, place_below, added, removed};
-ghost use Rattle.sv_world.specs.World.{no_world, view_before, presented_before, presented};
+ghost use Rattle.sv_world.specs.World.{no_world, view_before, presented_before, presented, constants_in, constants_view};
 
 use crate::turn::Turn;
 use std::alloc::Global;
 use sv_base::NoMemory;
 use sv_instance::{Bound, Dirty, Instance, Standing};
-use sv_states::{AddError, DEPTH_LIMIT, States};
+use sv_states::{AddError, AssignError, DEPTH_LIMIT, States};
 use sv_store::Sub;
 use sv_value::{Inst, Value};
-use sv_view::{Cell, Modules, View};
+use sv_view::{Cell, Constants, Modules, View};
 
 /// The world in which scripts run: the states of components, the constants of module files, the steps that are left in a turn, and its log.
 /// Calls take any instance, cell or store: what isn't there changes nothing.
@@ -60,7 +60,7 @@ impl World {
             .add(component, parent, cells, constants, standing)
     }
 
-    /// An instance goes, with its subscriptions and its entry in the queue.
+    /// An instance goes, with its subscriptions and its entry in the queue; the derived stores that it made are frozen.
     pub fn remove_instance(&mut self, inst: Inst)
         ensures { self.new ≡ record self.old { states = removed self.old.states inst.number } }
     {
@@ -107,31 +107,37 @@ impl World {
     }
 
     /// Assigns a cell: the value is stored where that counts as a change, handed up to the variable that the cell is bound to,
-    /// and the instance is queued. The store whose value the cell has is set in its place.
-    pub fn assign(&mut self, inst: Inst, cell: u8, value: Value) -> Result<(), NoMemory>
+    /// and the instance is queued. The store whose value the cell has is set in its place. `ReadOnly` exactly where a derived
+    /// store would be set.
+    pub fn assign(&mut self, inst: Inst, cell: u8, value: Value) -> Result<(), AssignError>
         ensures ok { OnOk result (self.new ≡ record self.old { states = assigned self.old.states inst.number cell (view_of value) }) }
+        ensures read_only { (result ≡ Err AssignError.ReadOnly) ↔ (is_read_only self.old.states inst.number cell ≡ true) }
         ensures err { OnErr result (self.new ≡ self.old) }
     {
         self.states.assign(Sub { inst, cell }, value)
     }
 
-    /// Sets a store, where that counts as a change, and then assigns the cells of its subscribers in order.
-    pub fn set_store(&mut self, id: u32, value: Value) -> Result<(), NoMemory>
+    /// Sets a store, where that counts as a change: what is derived of it is pending, and the cells of its subscribers are
+    /// assigned in order. `ReadOnly` exactly where it is a derived one.
+    pub fn set_store(&mut self, id: u32, value: Value) -> Result<(), AssignError>
         ensures ok { OnOk result (self.new ≡ record self.old { states = store_set self.old.states id (view_of value) }) }
+        ensures read_only { (result ≡ Err AssignError.ReadOnly) ↔ (is_derived self.old.states id ≡ true) }
         ensures err { OnErr result (self.new ≡ self.old) }
     {
         self.states.set_store(id, value)
     }
 
-    /// Runs a binding callback: binds a prop to a variable of the owner, which is assigned the prop's value.
+    /// Runs a binding callback: binds a prop to a variable of the owner, which is assigned the prop's value. `ReadOnly` exactly
+    /// where a derived store would be set.
     pub fn bind_up(
         &mut self,
         child: Inst,
         cell: u8,
         owner: Inst,
         target: u8,
-    ) -> Result<(), NoMemory>
+    ) -> Result<(), AssignError>
         ensures ok { OnOk result (self.new ≡ record self.old { states = bound_up self.old.states child.number (record { cell = cell; owner = owner.number; target = target }) }) }
+        ensures read_only { (result ≡ Err AssignError.ReadOnly) ↔ (is_bound_to_fixed self.old.states child.number (record { cell = cell; owner = owner.number; target = target }) ≡ true) }
         ensures err { OnErr result (self.new ≡ self.old) }
     {
         self.states.bind_up(
@@ -184,6 +190,28 @@ impl World {
                 Ok(Some(view))
             }
             None => Ok(None),
+        }
+    }
+
+    /// The constants of an instance, or of none, and those of the module files: a view without cells.
+    pub fn constants_view(&self, alloc: Global, inst: Inst) -> Result<View, NoMemory>
+        ensures { IfOk result (λ view. view ≡ constants_view self.now inst.number) }
+    {
+        let view = View::of(alloc, inst, Vec::new(alloc), None)?;
+        let constants = self.constants_of(alloc, inst)?;
+        let modules = self.modules.share()?;
+        Ok(view.with_constants(constants, modules))
+    }
+
+    fn constants_of(&self, alloc: Global, inst: Inst) -> Result<Constants, NoMemory>
+        ensures { IfOk result (λ constants. constants ≡ constants_in (live self.now.states inst.number)) }
+    {
+        match self.states.get(inst) {
+            Some(instance) => {
+                let setup = &instance.setup;
+                setup.constants.share()
+            }
+            None => Constants::new(alloc, 0),
         }
     }
 

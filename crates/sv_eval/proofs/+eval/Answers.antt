@@ -1,24 +1,29 @@
-use Rattle.std.proofs.Common.{◌≡◌, ◌≤◌, ◌<◌, ◌+◌, ◌-◌, [], ◌∷◌, ◌++◌, map, suc, refl, sym, ap, ap₂, ◌∙◌, subst, arith, ℕ, Bool, true, false, List, Option, Some, None, option_copied, get_or}
+use Rattle.std.proofs.Common.{◌≡◌, ◌≤◌, ◌<◌, ◌+◌, ◌-◌, [], ◌∷◌, ◌++◌, length, map, suc, refl, sym, ap, ap₂, ◌∙◌, subst, arith, ℕ, Bool, true, false, List, if◌then◌else◌, Option, Some, None, option_copied, get_or}
 use Rattle.std.proofs.lemmas.Option.{slice_get-get_or}
 use Rattle.sv_code.specs.declared.known.Known.TheVariants as known
 use Rattle.sv_code.specs.Within.{is_among}
+use Rattle.sv_derived.specs.Derived.{found}
 use Rattle.sv_ops.specs.Answer.{Answer, list_made, object_made}
-use Rattle.sv_ops.specs.Numbers.{quotient}
+use Rattle.sv_ops.specs.Numbers.{bumped, quotient}
 use Rattle.sv_value.specs.Value.{Val, items, list}
 use Rattle.sv_value.specs.View.{view_of, entry_of}
-use Rattle.sv_meaning.specs.Calls.{first, on_list, call_value}
-use Rattle.sv_meaning.specs.Context.{ground_of, calls_of, tells, expr_in, value_in, item_in, field_in, link_in, kind_in, run_in, doing_in, valued_in}
+use Rattle.sv_world.specs.declared.world.World.{World}
+use Rattle.sv_meaning.specs.Calls.{first, on_list, on_store, call_value, make_derived}
+use Rattle.sv_meaning.specs.Context.{ground_of, calls_of, mode_on, mode_of, expr_in, value_in, item_in, field_in, link_in, kind_in, run_in, doing_in, valued_in}
+use Rattle.sv_meaning.specs.Derived.{input_values, handed, called_apart}
 use Rattle.sv_meaning.specs.Env.{shown}
 use Rattle.sv_meaning.specs.Functions.{caller, entered, env_of, returned}
 use Rattle.sv_meaning.specs.Gives.{Gives, EndsAs, flow_of}
 use Rattle.sv_meaning.specs.Listeners.{listener_view}
 use Rattle.sv_meaning.specs.Outcome.{Ends, Fails, Done, Failed, Meaning, Deed, Flow, Next, and_then, then_do, left, doing, counted, answered}
-use Rattle.sv_meaning.specs.Sight.{Ground}
+use Rattle.sv_meaning.specs.Settling.{compute}
+use Rattle.sv_meaning.specs.Sight.{Ground, read, set}
 use Rattle.sv_meaning.specs.Statements.{does, done, in_order, takes_step, turns, tested, value_or}
 use Rattle.sv_meaning.specs.Values.{Ratio, all_values, with_args, call_step, callee_of, life_call, convert, parts_after, chained, ratio_or, divide, math_call, method_call}
 use Rattle.sv_eval.specs.Quotient.{ratio_of}
+use Rattle.sv_eval.proofs.Computing.{always, answer_of, answers-answer_of, answered_leaves, bump_sets, derive_gives, ended, settles_one, store_method_is, unseen}
 use Rattle.sv_eval.proofs.Exits.{err_exit, err_end, gave, ends_kept, gives_as, ends_as}
-use Rattle.sv_eval.proofs.Forms.{value_is, span_is, list_is, object_is, template_is, called_is, dispatcher_is, run_is, block_does}
+use Rattle.sv_eval.proofs.Forms.{value_is, span_is, list_is, object_is, template_is, assign_is, bump_is, called_is, dispatcher_is, run_is, block_does}
 use Rattle.sv_eval.proofs.Parts.{part_is, heard_is, heard_err}
 use Rattle.sv_eval.proofs.Steps.{counted_is, uncounted_is, count_err, with_args_is, member_is, method_is, member_uncounted, list_method_is, divide_is, call_is, block_is, done_silent, done_counts, turn_next, goes_on}
 use Rattle.sv_eval.proofs.+eval.Goals as goal
@@ -131,11 +136,11 @@ calls::call_value-returns-clause-means t c =
     let found = slice_get-get_or g.program.functions f.code c.in-Some.code.now below ∙ ap Some (sym here) in
     let o = ap (λ x. x.number) c.owner-owner.ensures in
     let there = sym (rw o at c.has_owner.ensures) ∙ c.if-not-has_owner.false in
-    let i = call_is (tells g) g n (n - 1) f.code f.owner.number f.held vs args c.args.span w c.in-Some.code.now (omega (arith, c.if-context-eq0.false)) there (sym c.held.ensures.list) found in
+    let i = call_is (mode_of g) g n (n - 1) f.code f.owner.number f.held vs args c.args.span w c.in-Some.code.now (omega (arith, c.if-context-eq0.false)) there (sym c.held.ensures.list) found in
     let v = ap (λ x. call_value (calls_of ctx) c.args.span (view_of x) args w) c.in-Func.is in
     let own = ap (λ x. is_among x g.arrows) (sym c.code-2.ensures) ∙ sym c.contains.ensures in
     let inside : Bool → Ground = λ (x : Bool). record g { is_own = x } in
-    let k = ap₂ (λ x m. entered c.in-Some.code.now.body (tells g) (inside x) (caller (tells g) (inside x) (n - 1)) m (env_of c.in-Some.code.now vs args) args c.args.span w) own (sym o) in
+    let k = ap₂ (λ x m. entered c.in-Some.code.now.body (mode_of g).tells (inside x) (caller (mode_of g) (inside x) (n - 1)) m (env_of c.in-Some.code.now vs args) args c.args.span w) own (sym o) in
     ends_as view_of c.call_function.result c.call_function.new.world _ _ (v ∙ i ∙ k) c.call_function.ensures.means
 
 pub calls::call_function-returns-in_err-end-in-Block-clause-means : goal.calls::call_function-returns-in_err-end-in-Block-clause-means
@@ -145,7 +150,7 @@ calls::call_function-returns-in_err-end-in-Block-clause-means t c =
     let env = env_of c.args.function.now (map view_of c.args.held.now) args in
     let w = c.args.world.now in
     let run = in_order (map (run_in ctx) c.in-Block.stmts) in
-    let b = block_is c.args.function.now.body c.in-Block.stmts (tells (ground_of ctx)) (ground_of ctx) (calls_of ctx) ctx.owner.number env args c.args.span w c.in-Block.is in
+    let b = block_is c.args.function.now.body c.in-Block.stmts (mode_of (ground_of ctx)).tells (ground_of ctx) (calls_of ctx) ctx.owner.number env args c.args.span w c.in-Block.is in
     let g = rw (c.as_slice.ensures, c.in_ok-locals-in-Block.ensures) at c.run_all.ensures.means in
     err_end flow_of view_of c.run_all.result c.in_err-end-in-Block.field-0.0 c.from_residual-in_err-end-in-Block.result c.run_all.new.locals c.run_all.new.world (run env w) _ c.in_err-end-in-Block.was c.from_residual-in_err-end-in-Block.ensures.1 g
     (λ k s e. b ∙ ap (λ o. then_do (left o) (λ f. Ends (returned f))) e)
@@ -157,7 +162,7 @@ calls::call_function-returns-in_ok-end-in-Block-clause-means t c =
     let env = env_of c.args.function.now (map view_of c.args.held.now) args in
     let w = c.args.world.now in
     let run = in_order (map (run_in ctx) c.in-Block.stmts) in
-    let b = block_is c.args.function.now.body c.in-Block.stmts (tells (ground_of ctx)) (ground_of ctx) (calls_of ctx) ctx.owner.number env args c.args.span w c.in-Block.is in
+    let b = block_is c.args.function.now.body c.in-Block.stmts (mode_of (ground_of ctx)).tells (ground_of ctx) (calls_of ctx) ctx.owner.number env args c.args.span w c.in-Block.is in
     let g = rw (c.as_slice.ensures, c.in_ok-locals-in-Block.ensures) at c.run_all.ensures.means in
     let d = gave flow_of c.run_all.result c.in_ok-end-in-Block.end c.run_all.new.locals c.run_all.new.world (run env w) c.in_ok-end-in-Block.was g in
     b ∙ ap (λ o. then_do (left o) (λ f. Ends (returned f))) d ∙ ap (λ v. Ends v c.run_all.new.world) (sym c.returned.ensures)
@@ -316,3 +321,121 @@ values::eval-returns-clause-means t c =
     ∙ counted_is code.span (kind_in ctx code.kind code.span).means c.args.locals.now c.args.world.now c.count.new.world c.in_ok-count.ensures.counts in
     let k = ap (λ k. (kind_in ctx k code.span).means c.args.locals.now c.count.new.world) c.get.ensures in
     subst (Gives view_of c.eval_kind.result c.eval_kind.new.locals c.eval_kind.new.world) (k ∙ sym e) c.eval_kind.ensures.means
+
+pub calls::call_name-returns-in_ok-args-in-Derived-clause-means : goal.calls::call_name-returns-in_ok-args-in-Derived-clause-means
+calls::call_name-returns-in_ok-args-in-Derived-clause-means t c =
+    let ctx = c.args.context.now in
+    let call = c.args.call in
+    let es = map (expr_in ctx) call.args.now in
+    let vs = map view_of c.in_ok-args-in-Derived.args.items in
+    let go : List Val → Deed Val = make_derived ctx.program.now (calls_of ctx) ctx.owner.number call.span in
+    let d = gave (λ us. map view_of us.items) c.eval_all-in-Derived.result c.in_ok-args-in-Derived.args c.eval_all-in-Derived.new.locals c.eval_all-in-Derived.new.world (all_values es c.args.locals.now c.count-in-Derived.new.world) c.in_ok-args-in-Derived.was c.eval_all-in-Derived.ensures.means in
+    let e = ap (λ k. call_step (callee_of k) (ground_of ctx) (calls_of ctx) ctx.owner.number (expr_in ctx call.of.now) es call.span c.args.locals.now c.args.world.now) c.in-Derived.is
+    ∙ counted_is (expr_in ctx call.of.now).span (with_args es go) c.args.locals.now c.args.world.now c.count-in-Derived.new.world c.in_ok-count-in-Derived.ensures.counts
+    ∙ with_args_is es go c.args.locals.now c.eval_all-in-Derived.new.locals c.count-in-Derived.new.world c.eval_all-in-Derived.new.world vs d in
+    gives_as view_of c.make_derived.result c.eval_all-in-Derived.new.locals c.make_derived.new.world _ _ e (ends_kept view_of c.make_derived.result c.eval_all-in-Derived.new.locals c.make_derived.new.world (go vs c.eval_all-in-Derived.new.world) (rw c.deref-in-Derived.ensures.value at c.make_derived.ensures.means))
+
+pub values::eval_kind-returns-in-Assign-clause-means : goal.values::eval_kind-returns-in-Assign-clause-means
+values::eval_kind-returns-in-Assign-clause-means t c =
+    let ctx = c.args.context.now in
+    let e = ap (λ x. x.means c.args.locals.now c.args.world.now) (assign_is ctx c.args.kind.now c.in-Assign.target c.in-Assign.at c.in-Assign.op c.in-Assign.value c.args.span c.in-Assign.is) in
+    gives_as view_of c.eval_assign.result c.eval_assign.new.locals c.eval_assign.new.world _ _ e c.eval_assign.ensures.means
+
+pub values::eval_kind-returns-in-Bump-clause-means : goal.values::eval_kind-returns-in-Bump-clause-means
+values::eval_kind-returns-in-Bump-clause-means t c =
+    let ctx = c.args.context.now in
+    let e = ap (λ x. x.means c.args.locals.now c.args.world.now) (bump_is ctx c.args.kind.now c.in-Bump.target c.in-Bump.at c.in-Bump.up c.in-Bump.prefix c.args.span c.in-Bump.is) in
+    gives_as view_of c.eval_bump.result c.eval_bump.new.locals c.eval_bump.new.world _ _ e c.eval_bump.ensures.means
+
+pub calls::call_method-returns-in_ok-args-in-Some-method-2-clause-means : goal.calls::call_method-returns-in_ok-args-in-Some-method-2-clause-means
+calls::call_method-returns-in_ok-args-in-Some-method-2-clause-means t c =
+    let ctx = c.args.context.now in
+    let call = c.args.call in
+    let es = map (expr_in ctx) call.args.now in
+    let vs = map view_of c.in_ok-args-in-Some-method-2.args.items in
+    let id = c.in-Store.id in
+    let m = c.in-Some-method-2.method in
+    let d = gave (λ us. map view_of us.items) c.eval_all-in-Some-method-2.result c.in_ok-args-in-Some-method-2.args c.eval_all-in-Some-method-2.new.locals c.eval_all-in-Some-method-2.new.world (all_values es c.args.locals.now c.args.world.now) c.in_ok-args-in-Some-method-2.was c.eval_all-in-Some-method-2.ensures.means in
+    let e = ap (λ v. method_call (ground_of ctx) (calls_of ctx) c.args.property call.span call.of.now.span es (view_of v) c.args.locals.now c.args.world.now) c.in-Store.is
+    ∙ store_method_is (ground_of ctx) (calls_of ctx) c.args.property call.span call.of.now.span es id m c.args.locals.now c.eval_all-in-Some-method-2.new.locals c.args.world.now c.eval_all-in-Some-method-2.new.world vs c.in-Some-method-2.is (sym c.has_method.ensures ∙ c.if-has_method.true) d in
+    gives_as view_of c.call_on_store.result c.eval_all-in-Some-method-2.new.locals c.call_on_store.new.world _ _ e (ends_kept view_of c.call_on_store.result c.eval_all-in-Some-method-2.new.locals c.call_on_store.new.world (on_store m (calls_of ctx) call.span id vs c.eval_all-in-Some-method-2.new.world) (rw c.deref-in-Some-method-2.ensures.value at c.call_on_store.ensures.means))
+
+-- ---- derived stores
+
+pub settling::derive-returns-clause-means : goal.settling::derive-returns-clause-means
+settling::derive-returns-clause-means t c = λ r k.
+    let ctx = c.args.context.now in
+    let p = ctx.program.now in
+    let x = c.args.computation in
+    let w = c.args.world.now in
+    let w' = c.answer.new.world in
+    let v = view_of c.in_ok-argument.argument in
+    let a = handed r.takes_list (input_values w.states.stores r.inputs) in
+    let d = subst (λ z. EndsAs view_of z w' (answered x.span a w)) c.in_ok-argument.was (c.answer.ensures.answers a k.argument) in
+    let d' = subst (λ s. answered s a w ≡ Ends v w') k.span d in
+    let e = ap (λ o. (mode_on o p).derives ctx.room x.owner.number r w) (unseen ctx.sight (sym c.is_some.ensures ∙ c.if-is_some.false))
+    ∙ derive_gives p ctx.room x.owner.number r w w' v (called_apart p ctx.room x.owner.number r v w') d' refl in
+    ends_as view_of c.call_apart.result c.call_apart.new.world _ _ e (rw (c.in_ok-view.ensures, k.span, k.function) at c.call_apart.ensures.means)
+
+pub settling::derive-returns-clause-rest : goal.settling::derive-returns-clause-rest
+settling::derive-returns-clause-rest t c =
+    let x = c.args.computation in
+    let w = c.args.world.now in
+    let w' = c.answer.new.world in
+    let a = answer_of x.argument in
+    let d = subst (λ z. EndsAs view_of z w' (answered x.span a w)) c.in_ok-argument.was (c.answer.ensures.answers a (answers-answer_of x.argument)) in
+    let l = answered_leaves x.span a w w' (view_of c.in_ok-argument.argument) d in
+    always c.call_apart.result (c.call_apart.ensures.rest ∙ ap (λ (z : World). record z { turn = c.call_apart.new.world.turn }) l)
+
+pub settling::settle-loop-round-preserved : goal.settling::settle-loop-round-preserved
+settling::settle-loop-round-preserved t c =
+    let ctx = c.args.context.now in
+    let derives = (calls_of ctx).derives in
+    let w = c.loop-round.world in
+    let w' = c.compute.new.world in
+    let n = length c.args.world.now.states.derived - c.loop-round._round in
+    let m = length c.args.world.now.states.derived - (c.loop-round._round + 1) in
+    let below = c.loop-round-test.true in
+    let count = c.derived_count-round-end.ensures in
+    let id = c.in-Some.id in
+    let d = ended c.compute.result c.in_ok-compute.field-0 w' (compute derives id (found w.states.derived id) w) c.in_ok-compute.was c.compute.ensures.means in
+    let x1 = c.compute.ensures.fewer in
+    let x2 = c.loop-round.invariant.fewer in
+    record {
+      same = c.loop-round.invariant.same ∙ settles_one n m derives w w' id (omega arith) (sym c.pending.ensures ∙ c.in-Some.is) d;
+      fewer = omega arith;
+    }
+
+-- ---- names that are bumped
+
+pub values::eval_bump-returns-in_err-value-clause-means : goal.values::eval_bump-returns-in_err-value-clause-means
+values::eval_bump-returns-in_err-value-clause-means t c =
+    let ctx = c.args.context.now in
+    let g = ground_of ctx in
+    let b = c.args.bump in
+    let env = c.args.locals.now in
+    let w' = c.read.new.world in
+    let w'' = c.answer.new.world in
+    let a = view_of c.in_ok-old.old in
+    let v = view_of c.in_ok-new.new in
+    let r = gave view_of c.read.result c.in_ok-old.old env w' (read g ctx.owner.number b.target b.at env c.args.world.now) c.in_ok-old.was c.read.ensures.means in
+    let d = subst (λ z. EndsAs view_of z w'' (answered b.span (bumped b.up a) w')) c.in_ok-new.was (c.answer.ensures.answers (bumped b.up a) c.bumped.ensures) in
+    let e = bump_sets g (calls_of ctx) ctx.owner.number b.target b.at b.up b.prefix b.span env c.args.world.now w' w'' a v r d in
+    err_exit view_of view_of c.set.result c.in_err-value.field-0.0 c.from_residual-in_err-value.result c.set.new.locals c.set.new.world (set g (calls_of ctx) ctx.owner.number b.target v b.at env w'') _ c.in_err-value.was c.from_residual-in_err-value.ensures.1 (rw c.in_ok-share.ensures at c.set.ensures.means)
+    (λ k s f. e ∙ ap (λ o. and_then o (λ u. Done (if b.prefix then v else a))) f)
+
+pub values::eval_bump-returns-clause-means : goal.values::eval_bump-returns-clause-means
+values::eval_bump-returns-clause-means t c =
+    let ctx = c.args.context.now in
+    let g = ground_of ctx in
+    let b = c.args.bump in
+    let env = c.args.locals.now in
+    let w' = c.read.new.world in
+    let w'' = c.answer.new.world in
+    let a = view_of c.in_ok-old.old in
+    let v = view_of c.in_ok-new.new in
+    let r = gave view_of c.read.result c.in_ok-old.old env w' (read g ctx.owner.number b.target b.at env c.args.world.now) c.in_ok-old.was c.read.ensures.means in
+    let d = subst (λ z. EndsAs view_of z w'' (answered b.span (bumped b.up a) w')) c.in_ok-new.was (c.answer.ensures.answers (bumped b.up a) c.bumped.ensures) in
+    let e = bump_sets g (calls_of ctx) ctx.owner.number b.target b.at b.up b.prefix b.span env c.args.world.now w' w'' a v r d in
+    let s = gave view_of c.set.result c.in_ok-value.value c.set.new.locals c.set.new.world (set g (calls_of ctx) ctx.owner.number b.target v b.at env w'') c.in_ok-value.was (rw c.in_ok-share.ensures at c.set.ensures.means) in
+    e ∙ ap (λ o. and_then o (λ u. Done (if b.prefix then v else a))) s ∙ ap (λ z. Done z c.set.new.locals c.set.new.world) (sym c.bump_value.ensures)

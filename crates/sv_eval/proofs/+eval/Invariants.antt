@@ -1,9 +1,10 @@
 -- Each call of the cycle takes steps, or room for calls, or goes down the ranks; a pure evaluation within another world begins anew, below all of them.
-use Rattle.std.proofs.Common.{◌≡◌, ◌≤◌, ◌+◌, ◌-◌, ◌*◌, [], map, suc, drop, option_map, option_copied}
+use Rattle.std.proofs.Common.{◌≡◌, ◌≤◌, ◌+◌, ◌-◌, ◌*◌, [], length, map, suc, drop, option_map, option_copied}
 use Rattle.sv_value.specs.View.{view_of, entry_of}
 use Rattle.sv_meaning.specs.Calls.{visited}
 use Rattle.sv_meaning.specs.Context.{calls_of, expr_in, item_in, field_in, link_in, run_in, arm_in, decl_in, valued_in}
 use Rattle.sv_meaning.specs.Listeners.{onward, heard_by}
+use Rattle.sv_meaning.specs.Settling.{settled, settled_within}
 use Rattle.sv_meaning.specs.Statements.{in_order, first_of, turns, item_turns}
 use Rattle.sv_meaning.specs.Values.{all_values, all_after, all_texts, texts_after, parts_after, chained}
 use Rattle.sv_eval.proofs.Measure.{budget}
@@ -58,7 +59,7 @@ abbrev pub decreases-values::eval_index : goal.decreases-values::eval_index
 decreases-values::eval_index l = budget l.context.now l.world.now 1
 
 abbrev pub decreases-values::eval_assign : goal.decreases-values::eval_assign
-decreases-values::eval_assign l = budget l.context.now l.world.now 1
+decreases-values::eval_assign l = budget l.context.now l.world.now 7
 
 abbrev pub decreases-values::eval_dispatcher : goal.decreases-values::eval_dispatcher
 decreases-values::eval_dispatcher l = budget l.context.now l.world.now 2
@@ -103,7 +104,7 @@ abbrev pub decreases-calls::visit : goal.decreases-calls::visit
 decreases-calls::visit l = budget l.context.now l.world.now 3
 
 abbrev pub decreases-calls::call_on_store : goal.decreases-calls::call_on_store
-decreases-calls::call_on_store l = budget l.context.now l.world.now 2
+decreases-calls::call_on_store l = budget l.context.now l.world.now 7
 
 abbrev pub decreases-calls::call_field : goal.decreases-calls::call_field
 decreases-calls::call_field l = budget l.context.now l.world.now 2
@@ -115,7 +116,7 @@ abbrev pub decreases-calls::call_of_value : goal.decreases-calls::call_of_value
 decreases-calls::call_of_value l = budget l.context.now l.world.now 2
 
 abbrev pub decreases-calls::call_method : goal.decreases-calls::call_method
-decreases-calls::call_method l = budget l.context.now l.world.now 5
+decreases-calls::call_method l = budget l.context.now l.world.now 8
 
 abbrev pub decreases-calls::call_math_method : goal.decreases-calls::call_math_method
 decreases-calls::call_math_method l = budget l.context.now l.world.now 2
@@ -177,6 +178,30 @@ decreases-listeners::tell_all l = budget l.context.now l.world.now (4 * l.room +
 abbrev pub decreases-listeners::tell_attr : goal.decreases-listeners::tell_attr
 decreases-listeners::tell_attr l = budget l.context.now l.world.now (4 * l.room + 12)
 
+abbrev pub decreases-settling::call_apart : goal.decreases-settling::call_apart
+decreases-settling::call_apart l = budget l.context.now l.world.now 2
+
+abbrev pub decreases-settling::derive : goal.decreases-settling::derive
+decreases-settling::derive l = budget l.context.now l.world.now 3
+
+abbrev pub decreases-settling::compute : goal.decreases-settling::compute
+decreases-settling::compute l = budget l.context.now l.world.now 4
+
+abbrev pub decreases-settling::make_derived : goal.decreases-settling::make_derived
+decreases-settling::make_derived l = budget l.context.now l.world.now 4
+
+abbrev pub decreases-settling::settle : goal.decreases-settling::settle
+decreases-settling::settle l = budget l.context.now l.world.now 5
+
+abbrev pub decreases-settling::set : goal.decreases-settling::set
+decreases-settling::set l = budget l.context.now l.world.now 6
+
+abbrev pub decreases-settling::set_store : goal.decreases-settling::set_store
+decreases-settling::set_store l = budget l.context.now l.world.now 6
+
+abbrev pub decreases-values::eval_bump : goal.decreases-values::eval_bump
+decreases-values::eval_bump l = budget l.context.now l.world.now 7
+
 abbrev pub decreases-listeners::eval_part : goal.decreases-listeners::eval_part
 decreases-listeners::eval_part l = 1024 * 100048 + 1
 
@@ -219,6 +244,12 @@ invariant-calls::visit_items-loop-i l = record {
 abbrev pub invariant-listeners::tell_all-loop-attr : goal.invariant-listeners::tell_all-loop-attr
 invariant-listeners::tell_all-loop-attr l = record {
   same : heard_by (onward l.room l.context.program.now (calls_of l.context) l.event.name.now) l.context.program.now (calls_of l.context) l.event.name.now l.hearer.owner.number l.hearer.locals l.attrs (view_of l.event.object.now) l.fn.world ≡ heard_by (onward l.room l.context.program.now (calls_of l.context) l.event.name.now) l.context.program.now (calls_of l.context) l.event.name.now l.hearer.owner.number l.hearer.locals (drop l.attr-index l.attrs) (view_of l.event.object.now) l.world;
+  fewer : l.world.turn.steps ≤ l.fn.world.turn.steps;
+}
+
+abbrev pub invariant-settling::settle-loop-round : goal.invariant-settling::settle-loop-round
+invariant-settling::settle-loop-round l = record {
+  same : settled (calls_of l.context).derives l.fn.world ≡ settled_within (length l.fn.world.states.derived - l._round) (calls_of l.context).derives l.world;
   fewer : l.world.turn.steps ≤ l.fn.world.turn.steps;
 }
 

@@ -1,4 +1,3 @@
-use Rattle.std.proofs.Common.{ℕ}
 use Rattle.sv_tokens.specs.Counting.{Has}
 use Rattle.sv_tokens.specs.Token.{is_child}
 use Rattle.rows_values.proofs.changes.moves.Given as goal

@@ -25,8 +25,12 @@ returns c =
     let unknown : c.offer_at-2.new.first ≡ fold earlier c.offer_at.new.first (refused UnknownImport (spec.at_file (unknown_imports bundle) n)) = rw (sym c.requires.found.are_unknown) c.offer_at-2.ensures in
     let own : IsFirst c.in_ok-own.own (mistakes table (files.scopes_of t)) = rw (sym c.requires.scopes) c.in_ok-own.ensures in
     let declares : c.as_slice-declares.result.now ≡ (files.scopes_of t).top.declares = c.as_slice-declares.ensures ∙ ap (λ s. s.top.declares) c.requires.scopes in
-    let impure : c.offer_impure.new.first ≡ fold earlier c.offer_script.new.first (refused ImpureMarkup (spec.impure_in table (spec.known_at_top table found.pure n t) t)) =
-    c.in_ok-offer_impure.ensures ∙ ap (λ ds. fold earlier c.offer_script.new.first (refused ImpureMarkup (spec.impure_in table (spec.known_in table found.pure n (names_of ds)) t))) declares in
+    let impure : c.offer_impure.new.first ≡ fold earlier c.offer_script.new.first (refused ImpureMarkup (spec.impure_in table (spec.known_at_top table (spec.pure_at found.pure n) t) t)) =
+    c.in_ok-offer_impure.ensures
+    ∙ ap (λ names. fold earlier c.offer_script.new.first (refused ImpureMarkup (spec.impure_in table (spec.known_in table names (names_of c.as_slice-declares.result.now)) t))) c.pure_at-pure.ensures
+    ∙ ap (λ ds. fold earlier c.offer_script.new.first (refused ImpureMarkup (spec.impure_in table (spec.known_in table (spec.pure_at found.pure n) (names_of ds)) t))) declares in
+    let script : c.offer_script.new.first ≡ fold earlier c.join.new.first (spec.script_mistakes table (spec.pure_at found.pure n) t) =
+    c.in_ok-offer_script.ensures ∙ ap (λ names. fold earlier c.join.new.first (spec.script_mistakes table names t)) c.pure_at-pure.ensures in
     let all : c.as_slice.result.now ≡ sheets bundle = c.as_slice.ensures ∙ c.requires.found.are_sheets in
     let own_sheet = sheet table bundle.files source in
     let there = ap (λ l. slice_get l n) all ∙ sheet_there bundle n source c.requires.source in
@@ -37,8 +41,8 @@ returns c =
     let places : c.as_slice-2.result.now ≡ too_many table (files.scopes_of t).top = c.as_slice-2.ensures ∙ c.in_ok-cells.ensures ∙ ap (λ s. too_many table s.top) c.requires.scopes in
     let cells : c.offer_all.new.first ≡ fold earlier c.offer_tags.new.first (refused TooManyNames (too_many table (files.scopes_of t).top)) =
     c.offer_all.ensures ∙ ap (λ l. fold earlier c.offer_tags.new.first (refused TooManyNames l)) places in
-    whole_first (refused ImportCycle (spec.at_file found.cycles n)) (refused UnknownImport (spec.at_file (unknown_imports bundle) n)) (mistakes table (files.scopes_of t)) (spec.script_mistakes table t)
-    (refused ImpureMarkup (spec.impure_in table (spec.known_at_top table found.pure n t) t)) (spec.tag_mistakes (spec.variables_of t) (sheets bundle) (sheet table bundle.files source))
+    whole_first (refused ImportCycle (spec.at_file found.cycles n)) (refused UnknownImport (spec.at_file (unknown_imports bundle) n)) (mistakes table (files.scopes_of t)) (spec.script_mistakes table (spec.pure_at found.pure n) t)
+    (refused ImpureMarkup (spec.impure_in table (spec.known_at_top table (spec.pure_at found.pure n) t) t)) (spec.tag_mistakes (spec.variables_of t) (sheets bundle) (sheet table bundle.files source))
     (refused TooManyNames (too_many table (files.scopes_of t).top)) (refused ReactiveCycle c.args.waiting.now)
     c.in_ok-own.own c.offer_at.new.first c.offer_at-2.new.first c.join.new.first c.offer_script.new.first c.offer_impure.new.first c.offer_tags.new.first c.offer_all.new.first c.offer_all-2.new.first
-    c.offer_at.ensures unknown own c.join.ensures c.in_ok-offer_script.ensures impure tags cells c.offer_all-2.ensures
+    c.offer_at.ensures unknown own c.join.ensures script impure tags cells c.offer_all-2.ensures

@@ -1,4 +1,4 @@
 use Rattle.sv_scripts.proofs.page.call.Goals as goal
 
 pub returns : goal.returns
-returns c = rw (c.page_context.ensures, c.place_of-at.ensures) at c.call_value.ensures.means
+returns c = rw (c.page_context.ensures, c.source_of-at.ensures) at c.call_value.ensures.means

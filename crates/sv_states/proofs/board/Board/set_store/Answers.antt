@@ -14,8 +14,8 @@ tell-requires-clause-enough c =
     omega (arith, e, left, same)
 
 pub returns-then-set-clause-states : goal.returns-then-set-clause-states
-returns-then-set-clause-states c = set-told c.args.self.now c.args.id c.args.copies.now.value (view_of c.take.result) c.set.new.self c.take.ensures.value c.set.ensures.stored (seen_as c.tell.new.self) (sym c.set.ensures.changed ∙ c.if-set.true)
-    (c.tell.ensures.states ∙ ap (λ k. told (subscribers_at c.set.new.self c.args.id) k.value (record (seen_as c.args.self.now) { stores = c.set.new.self })) c.take.ensures.left)
+returns-then-set-clause-states c = set-told c.args.self.now c.args.id c.args.copies.now.value (view_of c.take.result) c.set.new.self c.take.ensures.value c.set.ensures.stored (seen_as c.tell.new.self) c.mark.new.self c.mark.ensures (sym c.set.ensures.changed ∙ c.if-set.true)
+    (c.tell.ensures.states ∙ ap (λ k. told (subscribers_at c.set.new.self c.args.id) k.value (record (seen_as c.args.self.now) { stores = c.set.new.self; derived = c.mark.new.self })) c.take.ensures.left)
 
 pub returns-else-set-clause-states : goal.returns-else-set-clause-states
 returns-else-set-clause-states c = set-same c.args.self.now c.args.id c.args.copies.now.value (view_of c.take.result) c.set.new.self c.take.ensures.value c.set.ensures.stored (sym c.set.ensures.changed ∙ c.if-set.false)

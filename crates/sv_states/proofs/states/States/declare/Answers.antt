@@ -7,4 +7,4 @@ use Rattle.sv_states.proofs.Sounding.{sound-declared}
 use Rattle.sv_states.proofs.states.States.declare.Goals as goal
 
 pub invariant_of-self : goal.invariant_of-self
-invariant_of-self c = kept_as c.declare.new.self (declared (seen_as c.self.inside.board) (subscriber_of c.args.at) (view_of c.args.value)) c.declare.ensures.states c.declare.ensures.ready (sound-declared (seen_as c.self.inside.board) (subscriber_of c.args.at) (view_of c.args.value) c.self.invariant.sound)
+invariant_of-self c = kept_as c.declare.new.self (declared (seen_as c.self.inside.board) (subscriber_of c.args.at) (view_of c.args.value)) c.declare.ensures.states c.declare.ensures.ready (sound-declared (seen_as c.self.inside.board) (subscriber_of c.args.at) (view_of c.args.value) c.self.invariant.sound) c.self.invariant.made

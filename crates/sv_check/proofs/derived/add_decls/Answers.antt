@@ -1,0 +1,10 @@
+use Rattle.std.proofs.Common.{◌∙◌}
+use Rattle.sv_ast.specs.declared.script_tree.Decl.{out-Decl}
+use Rattle.sv_check.specs.Derived.{derivation_first}
+use Rattle.sv_check.proofs.Once.{places_more}
+use Rattle.sv_check.proofs.derived.add_decls.Goals as goal
+
+pub loop-decl-preserved : goal.loop-decl-preserved
+loop-decl-preserved c =
+    c.loop-decl.invariant
+    ∙ places_more c.args.decls.now c.loop-decl.decl-index c.decl-item.result c.loop-decl-test.true c.decl-item.is (λ decl. derivation_first c.args.names.now c.args.derivers.now (out-Decl decl).first) c.loop-decl.places c.add_first.new.places c.in_ok-add_first.ensures

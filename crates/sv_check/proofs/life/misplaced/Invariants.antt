@@ -1,6 +1,0 @@
-use Rattle.std.proofs.Common.{◌≡◌, ◌++◌, drop}
-use Rattle.sv_check.specs.Life.{misplaced}
-use Rattle.sv_check.proofs.life.misplaced.Given as goal
-
-abbrev pub invariant-loop-found : goal.invariant-loop-found
-invariant-loop-found l = misplaced l.names l.life l.free l.uses ≡ l.places ++ misplaced l.names l.life l.free (drop l.found-index l.uses)
