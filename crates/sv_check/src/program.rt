@@ -20,7 +20,7 @@ use sv_resolve::CheckError;
 /// - `ImportCycle`: an import of a file from which imports lead to this one, itself included; at the import.
 /// - `UnknownImport`: a name between the braces of an import that the module, `svelte` or `svelte/store` doesn't give; at the name.
 /// - `DeclaredTwice`, `UnknownName`, `AssignConst`, `CapturedAssign`: as `sv_resolve::first_mistake` says.
-/// - `BadStore`: `$x` in a module, or where `x` is no constant of the component and no import between braces; at the name.
+/// - `BadStore`: `$x` in a module, or where `x` is no variable of the component, no `const` of its top and no import between braces; at the name.
 /// - `BadLifecyclePlace`: a function of `svelte` that isn't called as a whole statement at a component's top level or as the whole value of a
 ///   name that it declares; at the name.
 /// - `BadDerived`: `derived` of `svelte/store` that isn't called, as the whole value of a constant at the top of a file, with two arguments of

@@ -41,18 +41,18 @@ fn storeless(
     Ok(places)
 }
 
-// The names that may hold a store.
+// The names that may hold a store; a module has none.
 fn holders(alloc: Global, in_component: bool, declares: &[Declared]) -> Result<Distinct, NoMemory>
     ensures { IfOk result (λ known. known ≡ spec.holders in_component declares.now) }
 {
     if in_component {
-        return constants(alloc, declares);
+        return all_holders(alloc, declares);
     }
     Ok(Distinct::new(alloc))
 }
 
-fn constants(alloc: Global, declares: &[Declared]) -> Result<Distinct, NoMemory>
-    ensures { IfOk result (λ known. known ≡ spec.constants declares.now) }
+fn all_holders(alloc: Global, declares: &[Declared]) -> Result<Distinct, NoMemory>
+    ensures { IfOk result (λ known. known ≡ spec.all_holders declares.now) }
 {
     let mut known = Distinct::new(alloc);
     for declared in declares {
@@ -66,7 +66,10 @@ fn constants(alloc: Global, declares: &[Declared]) -> Result<Distinct, NoMemory>
 fn may_hold(by: Binding) -> bool
     ensures { result ≡ spec.may_hold by }
 {
-    matches!(by, Binding::Const | Binding::Import)
+    matches!(
+        by,
+        Binding::Let | Binding::Export | Binding::Reactive | Binding::Const | Binding::Import
+    )
 }
 
 fn is_bad_store(known: &Distinct, found: &Use) -> bool
