@@ -18,8 +18,7 @@ use Rattle.sv_scopes.specs.declared.scope.TheConstants.{VIEW}
 use Rattle.sv_scopes.specs.declared.scope.Use.{Use}
 use Rattle.sv_scopes.specs.Files.{component_scopes}
 use Rattle.sv_check.specs.Cells.{store_places, first_view, cell_places, too_many}
-use Rattle.sv_check.specs.Checked.{told_scopes}
-use Rattle.sv_check.specs.Files.{scopes_of}
+use Rattle.sv_check.specs.Files.{scopes_of, told_scopes}
 
 -- the places of one use more
 store_place : (table : Table) (known : List Ref) (u : Use) (uses : List Use) (s h : Bool) → is_store u.name ≡ s → has u.name known ≡ h

@@ -2,6 +2,7 @@ pub mod Joined
 pub mod Once
 pub mod Waits
 pub mod Unique
+pub mod Beside
 pub mod OneMistake
 pub mod Few
 pub mod Whole

@@ -10,6 +10,7 @@ use Rattle.sv_ast.specs.Files.{statements_of}
 use Rattle.sv_resolve.specs.declared.refusals.CheckRefusal.{CheckRefusal}
 use Rattle.sv_resolve.specs.Earliest.{IsEarliest}
 use Rattle.sv_check.specs.Checked.{in_file, IsMistakeOf, IsOneMistake, IsMistakeOrClean}
+use Rattle.sv_check.specs.Files.{cells_of}
 use Rattle.sv_check.specs.Mistakes.{AreMistakes, file_mistakes}
 use Rattle.sv_check.specs.Waiting.{AreWaiting}
 use Rattle.sv_check.proofs.Unique.{earliest_same, waiting_same, cycles_same, pure_same}
@@ -19,7 +20,7 @@ mistakes_same : (bundle : Bundle) (cycles : List (List Span)) (pure : List (List
     → AreMistakes bundle cycles pure n b → a ≡ b
 mistakes_same bundle cycles pure n a b p q =
     let file : q.source ≡ p.source = ap (λ o. unwrap_or o p.source) (sym q.there ∙ p.there) in
-    let waits : q.waiting ≡ p.waiting = waiting_same (statements_of p.source.tree) q.waiting p.waiting (subst (λ s. AreWaiting (statements_of s.tree) q.waiting) file q.are_waiting) p.are_waiting in
+    let waits : q.waiting ≡ p.waiting = waiting_same (cells_of p.source.tree) (statements_of p.source.tree) q.waiting p.waiting (subst (λ s. AreWaiting (cells_of s.tree) (statements_of s.tree) q.waiting) file q.are_waiting) p.are_waiting in
     p.is ∙ sym (q.is ∙ ap (λ s. file_mistakes bundle cycles pure n s q.waiting) file ∙ ap (λ w. file_mistakes bundle cycles pure n p.source w) waits)
 
 none_earliest : (first : CheckRefusal) (list : List CheckRefusal) → list ≡ [] → IsEarliest first list → ⊥

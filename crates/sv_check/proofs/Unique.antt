@@ -81,20 +81,20 @@ earliest_same list a b p q = go p.front q.front p.back q.back a b (sym p.stands 
 at_head : (q : ℕ) (cycle : List ℕ) → is_in q (q ∷ cycle) ≡ true
 at_head q cycle = search rules
 
-place_same : (stmts : List Stmt) (c d : List ℕ) → IsFirstCycle (Before (reads stmts)) c → IsFirstCycle (Before (reads stmts)) d → first_place stmts c ≡ first_place stmts d
-place_same stmts [] d f g = absurd f.is_cycle
-place_same stmts (p ∷ c) [] f g = absurd g.is_cycle
-place_same stmts (p ∷ c) (q ∷ d) f g =
+place_same : (cells : List Ref) (stmts : List Stmt) (c d : List ℕ) → IsFirstCycle (Before (reads cells stmts)) c → IsFirstCycle (Before (reads cells stmts)) d → first_place stmts c ≡ first_place stmts d
+place_same cells stmts [] d f g = absurd f.is_cycle
+place_same cells stmts (p ∷ c) [] f g = absurd g.is_cycle
+place_same cells stmts (p ∷ c) (q ∷ d) f g =
     let low : p ≤ q = f.is_first (q ∷ d) q g.is_cycle (at_head q d) in
     let high : q ≤ p = g.is_first (p ∷ c) p f.is_cycle (at_head p c) in
     let same : p ≡ q = omega arith in
     ap (place_at stmts) same
 
-pub waiting_same : (stmts : List Stmt) (a b : List Span) → AreWaiting stmts a → AreWaiting stmts b → a ≡ b
-waiting_same stmts _ _ (none x) (none y) = refl
-waiting_same stmts _ _ (none x) (some cycle f) = absurd (x cycle f.is_cycle)
-waiting_same stmts _ _ (some cycle f) (none y) = absurd (y cycle f.is_cycle)
-waiting_same stmts _ _ (some c f) (some d g) = place_same stmts c d f g
+pub waiting_same : (cells : List Ref) (stmts : List Stmt) (a b : List Span) → AreWaiting cells stmts a → AreWaiting cells stmts b → a ≡ b
+waiting_same cells stmts _ _ (none x) (none y) = refl
+waiting_same cells stmts _ _ (none x) (some cycle f) = absurd (x cycle f.is_cycle)
+waiting_same cells stmts _ _ (some cycle f) (none y) = absurd (y cycle f.is_cycle)
+waiting_same cells stmts _ _ (some c f) (some d g) = place_same cells stmts c d f g
 
 -- ---- cycles of imports
 

@@ -33,22 +33,22 @@ place_there (place ∷ places) zero within h = cc
 place_there (place ∷ places) (suc n) within h = place_there places n (omega arith) h
 
 -- the first statement of a cycle has a place
-cycle_there : (stmts : List Stmt) (cycle : List ℕ) → IsFirstCycle (Before (reads stmts)) cycle → first_place stmts cycle ≡ [] → ⊥
-cycle_there stmts [] is h = is.is_cycle
-cycle_there stmts (n ∷ points) is h =
-    let within = leads_within (reads stmts) n n points is.is_cycle in
+cycle_there : (cells : List Ref) (stmts : List Stmt) (cycle : List ℕ) → IsFirstCycle (Before (reads cells stmts)) cycle → first_place stmts cycle ≡ [] → ⊥
+cycle_there cells stmts [] is h = is.is_cycle
+cycle_there cells stmts (n ∷ points) is h =
+    let within = leads_within (reads cells stmts) n n points is.is_cycle in
     let a = length-map (reactives stmts) (λ (s : Stmt). s.span) in
-    let b : length (reads stmts) ≡ length (reactives stmts) = length-map (reactives stmts) _ in
+    let b : length (reads cells stmts) ≡ length (reactives stmts) = length-map (reactives stmts) _ in
     place_there (map (λ s. s.span) (reactives stmts)) n (omega arith) h
 
 -- no statements wait for one another
-pub none_wait : (stmts : List Stmt) (list : List Reads) (places : List Span) → list ≡ reads stmts → places ≡ [] → ((cycle : List ℕ) → IsCycle (Before list) cycle → ⊥) → AreWaiting stmts places
-none_wait stmts list places l p acyclic = subst (AreWaiting stmts) (sym p) (none (subst (λ z. (cycle : List ℕ) → IsCycle (Before z) cycle → ⊥) l acyclic))
+pub none_wait : (cells : List Ref) (stmts : List Stmt) (list : List Reads) (places : List Span) → list ≡ reads cells stmts → places ≡ [] → ((cycle : List ℕ) → IsCycle (Before list) cycle → ⊥) → AreWaiting cells stmts places
+none_wait cells stmts list places l p acyclic = subst (AreWaiting cells stmts) (sym p) (none (subst (λ z. (cycle : List ℕ) → IsCycle (Before z) cycle → ⊥) l acyclic))
 
 -- some do
-pub some_wait : (stmts : List Stmt) (list : List Reads) (cycle : List ℕ) (places : List Span) → list ≡ reads stmts → IsFirstCycle (Before list) cycle → places ≡ first_place stmts cycle → AreWaiting stmts places
-some_wait stmts list cycle places l is p = subst (AreWaiting stmts) (sym p) (some cycle (subst (λ z. IsFirstCycle (Before z) cycle) l is))
+pub some_wait : (cells : List Ref) (stmts : List Stmt) (list : List Reads) (cycle : List ℕ) (places : List Span) → list ≡ reads cells stmts → IsFirstCycle (Before list) cycle → places ≡ first_place stmts cycle → AreWaiting cells stmts places
+some_wait cells stmts list cycle places l is p = subst (AreWaiting cells stmts) (sym p) (some cycle (subst (λ z. IsFirstCycle (Before z) cycle) l is))
 
 -- and then there is a place
-pub some_place : (stmts : List Stmt) (list : List Reads) (cycle : List ℕ) (places : List Span) → list ≡ reads stmts → IsFirstCycle (Before list) cycle → places ≡ first_place stmts cycle → places ≡ [] → ⊥
-some_place stmts list cycle places l is p h = cycle_there stmts cycle (subst (λ z. IsFirstCycle (Before z) cycle) l is) (sym p ∙ h)
+pub some_place : (cells : List Ref) (stmts : List Stmt) (list : List Reads) (cycle : List ℕ) (places : List Span) → list ≡ reads cells stmts → IsFirstCycle (Before list) cycle → places ≡ first_place stmts cycle → places ≡ [] → ⊥
+some_place cells stmts list cycle places l is p h = cycle_there cells stmts cycle (subst (λ z. IsFirstCycle (Before z) cycle) l is) (sym p ∙ h)

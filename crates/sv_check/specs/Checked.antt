@@ -1,8 +1,6 @@
 -- What a program is refused for, and what is told of one that isn't.
 use Rattle.std.specs.Prelude.{◌≡◌, ℕ, ◌<◌, ◌≤◌, List, [], Some, length, slice_get}
 use Rattle.sv_ast.specs.declared.files.Bundle.{Bundle}
-use Rattle.sv_ast.specs.declared.files.FileTree.{FileTree}
-use Rattle.sv_ast.specs.declared.files.FileTree.TheVariants as tree
 use Rattle.sv_ast.specs.declared.files.SourceFile.{SourceFile}
 use Rattle.sv_ast.specs.declared.names.Ref.{Ref}
 use Rattle.sv_base.specs.declared.limits.TheConstants.{CELL_LIMIT}
@@ -10,15 +8,13 @@ use Rattle.sv_base.specs.declared.span.Span.{Span}
 use Rattle.sv_imports.specs.Cycles.{AreCycles}
 use Rattle.sv_ast.specs.Files.{statements_of}
 use Rattle.sv_order.specs.ReactiveOrder.{IsOrder, IsEachOnce}
-use Rattle.sv_resolve.specs.declared.cells.Scopes.{Scopes}
 use Rattle.sv_resolve.specs.declared.refusals.CheckError.{CheckError}
 use Rattle.sv_resolve.specs.declared.refusals.CheckError.TheVariants.{Refused, NoMemory}
 use Rattle.sv_resolve.specs.declared.refusals.CheckRefusal.{CheckRefusal}
-use Rattle.sv_resolve.specs.Cells.{scopes}
 use Rattle.sv_resolve.specs.Earliest.{IsEarliest}
-use Rattle.sv_scopes.specs.Files.{component_scopes}
 use Rattle.sv_effects.specs.Stains.{ArePure}
 use Rattle.sv_check.specs.declared.checked.CheckedComponent.{CheckedComponent}
+use Rattle.sv_check.specs.Files.{told_scopes, cells_of}
 use Rattle.sv_check.specs.Mistakes.{AreMistakes}
 use Rattle.sv_check.specs.Waiting.{reads}
 
@@ -66,18 +62,13 @@ pub record IsClean (bundle : Bundle) : Type 0 where
   pub are_pure : ArePure bundle pure
   pub clean : (n : ℕ) → n < length bundle.files → AreMistakes bundle cycles pure n []
 
--- the cells and constants of a component; of a module none are told
-abbrev pub told_scopes : FileTree → Scopes
-told_scopes (tree.Component c) = scopes (component_scopes c).top
-told_scopes (tree.Module m) = record { cells = []; constants = [] }
-
 -- what is told of a file: those, of which there are few enough, and the order in which its reactive statements run, each once. A module
 -- has none of either
 pub record IsChecked (source : SourceFile) (c : CheckedComponent) : Type 0 where
   pub scopes_are : c.scopes ≡ told_scopes source.tree
   pub few : length c.scopes.cells ≤ CELL_LIMIT
-  pub order_is : IsOrder (reads (statements_of source.tree)) c.order.items
-  pub once : IsEachOnce (reads (statements_of source.tree)) c.order.items
+  pub order_is : IsOrder (reads (cells_of source.tree) (statements_of source.tree)) c.order.items
+  pub once : IsEachOnce (reads (cells_of source.tree) (statements_of source.tree)) c.order.items
 
 -- what is told of each file of a program
 pub record AreChecked (bundle : Bundle) (components : List CheckedComponent) : Type 0 where

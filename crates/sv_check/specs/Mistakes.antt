@@ -25,7 +25,7 @@ use Rattle.sv_slots.specs.Sheets.{sheet, sheets}
 use Rattle.sv_slots.specs.Slots.{unknown_slots}
 use Rattle.sv_check.specs.Cells.{too_many}
 use Rattle.sv_check.specs.Derived.{bad_derived}
-use Rattle.sv_check.specs.Files.{scopes_of}
+use Rattle.sv_check.specs.Files.{scopes_of, cells_of}
 use Rattle.sv_check.specs.Life.{bad_life_places}
 use Rattle.sv_check.specs.Stores.{bad_stores}
 use Rattle.sv_check.specs.Waiting.{AreWaiting}
@@ -89,5 +89,5 @@ pub record AreMistakes (bundle : Bundle) (cycles : List (List Span)) (pure : Lis
   pub source : SourceFile
   pub there : slice_get bundle.files n ≡ Some source
   pub waiting : List Span
-  pub are_waiting : AreWaiting (statements_of source.tree) waiting
+  pub are_waiting : AreWaiting (cells_of source.tree) (statements_of source.tree) waiting
   pub is : list ≡ file_mistakes bundle cycles pure n source waiting

@@ -2,7 +2,7 @@
 ghost use Rattle.std.specs.Prelude.{◌≡◌, ◌<◌, [], Some, length, fold, slice_get, IfOk, IfErr, OnOk};
 ghost use Rattle.sv_resolve.specs.Earliest.{earlier, IsFirst};
 ghost use Rattle.sv_resolve.specs.Mistakes.{refused};
-ghost use Rattle.sv_check.specs.Checked.{IsChecked, IsCauseIn, in_file as spec_in_file, told_scopes as spec_told_scopes};
+ghost use Rattle.sv_check.specs.Checked.{IsChecked, IsCauseIn, in_file as spec_in_file};
 ghost use Rattle.sv_check.specs.Files as files;
 ghost use Rattle.sv_check.specs.Found.{AreFound};
 ghost use Rattle.sv_check.specs.Mistakes as spec;
@@ -38,12 +38,13 @@ pub(crate) fn check_file(
     ensures refused { IfErr result (IsCauseIn bundle.now found.now.cycles found.now.pure n) }
 {
     let scopes = file_scopes(alloc, &source.tree)?;
-    let run = run_of(alloc, source.tree.statements())?;
+    let told = told_scopes(alloc, &source.tree, &scopes.top)?;
+    let run = run_of(alloc, told.cells.as_slice(), source.tree.statements())?;
     let waiting = run.waiting.as_slice();
     match file_mistake(alloc, bundle, found, n, source, &scopes, waiting)? {
         Some(first) => Err(CheckError::Refused(in_file(n, first)?)),
         None => Ok(CheckedComponent {
-            scopes: told_scopes(alloc, &source.tree, &scopes.top)?,
+            scopes: told,
             order: run.order,
         }),
     }
@@ -139,7 +140,7 @@ fn file_scopes(alloc: Global, tree: &FileTree) -> Result<FileScopes, NoMemory>
 // The cells and constants of a component. Of a module none are told.
 fn told_scopes(alloc: Global, tree: &FileTree, top: &Scope) -> Result<Scopes, NoMemory>
     requires { top.now ≡ (files.scopes_of tree.now).top }
-    ensures { IfOk result (λ scopes. scopes ≡ spec_told_scopes tree.now) }
+    ensures { IfOk result (λ scopes. scopes ≡ files.told_scopes tree.now) }
 {
     match tree {
         FileTree::Component(_) => scopes_of(alloc, top),

@@ -107,7 +107,8 @@ fn known_in(
     })
 }
 
-fn add_all(names: &mut Distinct, more: &[Ref]) -> Result<(), NoMemory>
+/// Puts each of some names behind others, if it isn't there.
+pub(crate) fn add_all(names: &mut Distinct, more: &[Ref]) -> Result<(), NoMemory>
     ensures { OnOk result (names.new ≡ with_names names.old more.now) }
 {
     for name in more {

@@ -32,7 +32,8 @@ use sv_resolve::CheckError;
 ///   node.
 /// - `BadBind`: a `bind:` of what is no cell, on an element where it may not stand, or of no prop of a component; at the directive.
 /// - `TooManyNames`: more than 248 cells; at the 249th name.
-/// - `ReactiveCycle`: reactive statements that wait for one another; at the first that lies on any cycle.
+/// - `ReactiveCycle`: reactive statements that wait for one another, where one that assigns a variable `x` with a `$x` assigns that too; at the
+///   first that lies on any cycle.
 pub fn check<'a>(alloc: Global, bundle: &'a Bundle) -> Result<Checked<'a>, CheckError>
     ensures clean { OnOk result (IsClean bundle.now) }
     ensures bundle { IfOk result (λ checked. checked.bundle.now ≡ bundle.now) }

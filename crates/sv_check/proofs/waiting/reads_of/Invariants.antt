@@ -1,6 +1,0 @@
-use Rattle.std.proofs.Common.{◌≡◌, ◌++◌, drop}
-use Rattle.sv_check.specs.Waiting.{reads}
-use Rattle.sv_check.proofs.waiting.reads_of.Given as goal
-
-abbrev pub invariant-loop-stmt : goal.invariant-loop-stmt
-invariant-loop-stmt l = reads l.stmts ≡ l.reads.items ++ reads (drop l.stmt-index l.stmts)
