@@ -21,8 +21,8 @@ pub type CodeArms = sv_list::Items<CodeArm>;
 /// The functions and arrows of a program, by number.
 pub type Functions = sv_list::Items<Function>;
 
-/// A declared name, what it stands for, and its first value. Of a constant at the top of a component, `store` is the cell that has the
-/// value of the store that it holds, if its `$` name is written anywhere.
+/// A declared name, what it stands for, and its first value. Of a variable or a constant at the top of a component, `store` is the cell that
+/// has the value of the store that it holds, if its `$` name is written anywhere.
 #[derive(Drop)]
 pub struct CodeDecl {
     pub name: Named,

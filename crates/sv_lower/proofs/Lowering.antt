@@ -191,7 +191,14 @@ module _ (sizes : List Size) (file : ℕ) (tops : Tops) (tops_there : TopsThere 
 
   store_there : (P : Number → Type 0) (t v : Known) → All P (numbers.of_known v) → All P (map OfCell (option_to_list (store_of t v)))
   store_there P (known_form.Local name0) v h = All-nil P
-  store_there P (known_form.Cell n0) v h = All-nil P
+  store_there P (known_form.Cell n0) (known_form.Local name1) h = All-nil P
+  store_there P (known_form.Cell n0) (known_form.Cell n1) h = h
+  store_there P (known_form.Cell n0) (known_form.Constant n1) h = All-nil P
+  store_there P (known_form.Cell n0) (known_form.Export f1 n1) h = All-nil P
+  store_there P (known_form.Cell n0) (known_form.Life l1) h = All-nil P
+  store_there P (known_form.Cell n0) known_form.Writable h = All-nil P
+  store_there P (known_form.Cell n0) known_form.Derived h = All-nil P
+  store_there P (known_form.Cell n0) (known_form.BuiltIn g1) h = All-nil P
   store_there P (known_form.Constant n0) (known_form.Local name1) h = All-nil P
   store_there P (known_form.Constant n0) (known_form.Cell n1) h = h
   store_there P (known_form.Constant n0) (known_form.Constant n1) h = All-nil P

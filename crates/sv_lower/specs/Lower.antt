@@ -106,8 +106,9 @@ placed at_end name span tops locals before = (place at_end (width tops.names nam
 abbrev pub worded : Name → Lowers Property
 worded word tops locals before = (property tops word, before)
 
--- the cell of a store, where a constant at the top holds it
+-- the cell of a store, where a cell or a constant at the top holds it
 abbrev pub store_of : Known → Known → Option ℕ
+store_of (Cell n) (Cell cell) = Some cell
 store_of (Constant n) (Cell cell) = Some cell
 store_of _ _ = None
 

@@ -35,12 +35,12 @@ pub(crate) fn row_scope(alloc: Global, name: Named) -> Result<Distinct, NoMemory
     Ok(names)
 }
 
-/// The cell of a store, where a constant at the top holds it.
+/// The cell of a store, where a cell or a constant at the top holds it.
 pub(crate) fn store_of(target: Known, value: Known) -> Option<u8>
     ensures { result ≡ spec.store_of target value }
 {
     match (target, value) {
-        (Known::Constant(_), Known::Cell(cell)) => Some(cell),
+        (Known::Cell(_) | Known::Constant(_), Known::Cell(cell)) => Some(cell),
         _ => None,
     }
 }
