@@ -91,6 +91,7 @@ fn found_beyond(alloc: Global, kind: &str, row: &str) -> Result<String, Unanswer
         "resolved parts" => resolved::of_program(alloc, Told::Parts, row),
         "resolved scripts" => resolved::of_program(alloc, Told::Scripts, row),
         "stores and modules" => resolved::of_program(alloc, Told::Stores, row),
+        "order of runs" => resolved::of_program(alloc, Told::Runs, row),
         "line starts" => lines::starts(alloc, row),
         "places" => lines::places(alloc, row),
         "kept" => lines::pieces(alloc, false, row),

@@ -27,6 +27,8 @@ pub enum Told {
     Scripts,
     /// The stores of the first file, and the modules in the order in which they run.
     Stores,
+    /// The reactive statements of the first file in the order in which they run, by their numbers.
+    Runs,
 }
 
 /// What a compiled program is told as.
@@ -54,6 +56,7 @@ fn told_of(alloc: Global, told: Told, program: &Program) -> Result<String, Alloc
         Told::Parts => push_parts(&mut line, program)?,
         Told::Scripts => push_scripts(&mut line, program)?,
         Told::Stores => push_stores(&mut line, program)?,
+        Told::Runs => push_runs(&mut line, program)?,
     }
     Ok(line)
 }
@@ -213,6 +216,15 @@ fn push_stores(line: &mut String, program: &Program) -> Result<(), AllocError> {
     line.push_str("modules")?;
     for number in program.modules.as_slice() {
         write!(line, " {number}")?;
+    }
+    Ok(())
+}
+
+fn push_runs(line: &mut String, program: &Program) -> Result<(), AllocError> {
+    if let Some(component) = first_component(program) {
+        for run in component.runs.as_slice() {
+            write!(line, " {}", run.number)?;
+        }
     }
     Ok(())
 }

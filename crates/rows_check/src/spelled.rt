@@ -193,6 +193,9 @@ fn push_stmt(line: &mut String, names: &Names, stmt: &CodeStmt) -> Result<(), Al
 fn push_decls(line: &mut String, names: &Names, decls: &[CodeDecl]) -> Result<(), AllocError> {
     for decl in decls {
         push_target(line, names, decl.target)?;
+        if let Some(cell) = decl.store {
+            write!(line, " with cell {cell}")?;
+        }
         line.push_str(" =")?;
         push_given(line, names, &decl.first)?;
     }

@@ -27,7 +27,7 @@ pub struct Run {
 /// The props of a component, in order of declaration.
 pub type Props = sv_list::Items<Prop>;
 
-/// The stores whose `$` names a component has, in the order of those. What is imported may turn out to be none.
+/// The stores whose `$` names a component has, in the order of those. What is imported, or is in a cell, may turn out to be none.
 pub type StoreCells = sv_list::Items<StoreCell>;
 
 /// Module files, by number.
@@ -40,8 +40,8 @@ pub struct Prop {
     pub cell: u8,
 }
 
-/// A cell that has the value of a store (`$x`): what is to hold the store, a constant of the component or what it imports between braces; and
-/// where that is declared or imported.
+/// A cell that has the value of a store (`$x`): what is to hold the store, a cell or a constant of the component or what it imports between
+/// braces; and where that is declared or imported. A cell that only reactive statements declare is declared by the first of them.
 #[derive(Clone, Copy, Debug, PartialEq, Eq)]
 pub struct StoreCell {
     pub cell: u8,

@@ -3,7 +3,7 @@ use Rattle.std.proofs.Common.{◌≡◌, ℕ, zero, suc, ◌+◌, ◌<◌, ◌�
 use Rattle.std.specs.List.{All}
 use Rattle.std.specs.Prelude.{slice_get, if◌then◌else◌}
 use Rattle.std.specs.Option.{option_map_or}
-use Rattle.std.proofs.lemmas.List.Elements.{All-nil, All-cons, All-head, All-tail}
+use Rattle.std.proofs.lemmas.List.Elements.{All-nil, All-cons, All-append, All-head, All-tail}
 use Rattle.std.proofs.lemmas.Bool.{false≢true}
 use Rattle.std.proofs.lemmas.Option.{none-some, same_Some}
 use Rattle.sv_ast.specs.declared.files.Bundle.{Bundle}
@@ -37,18 +37,20 @@ use Rattle.sv_lower.specs.Tops.{known_in}
 use Rattle.sv_lower.proofs.Keeping.{AtLeast, AreSomewhere, no_more, once_more, still_there}
 use Rattle.sv_lower.proofs.Lowering.{KnownThere, TopsThere, of_stmts_keeps}
 use Rattle.sv_scopes.specs.declared.scope.TheConstants.{VIEW}
+use Rattle.sv_scopes.specs.Files.{component_scopes}
 use Rattle.sv_slots.specs.Sheets.{all_props}
 use Rattle.sv_graph.specs.declared.outcome.Visited.{Visited}
 use Rattle.sv_graph.specs.declared.outcome.Visited.TheVariants as visited
 use Rattle.sv_compile.specs.Compile.{around, component, module_code, tree_code, file, files_code, writable, first_tables, program}
 use Rattle.sv_compile.specs.Constants.{all_constants, givens}
+use Rattle.sv_compile.specs.Holders.{variables, holders}
 use Rattle.sv_ast.specs.Files.{is_module}
 use Rattle.sv_compile.specs.Modules.{is_module_at, modules_in, AreModules}
 use Rattle.sv_compile.specs.TopLevel.{tops, cell_of}
 use Rattle.sv_compile.proofs.TagFiles.{tags_are_files}
 use Rattle.sv_compile.proofs.Reacting.{runs_are}
 use Rattle.sv_compile.proofs.Within.{parts_within, contents_seen}
-use Rattle.sv_compile.proofs.Standing.{tree_size, sizes_told, sizes_count, GivenStands, givens_stand, tops_stand, name_cell, view_stands, props_stand, StoreStands, stores_stand}
+use Rattle.sv_compile.proofs.Standing.{tree_size, sizes_told, sizes_count, GivenStands, givens_stand, tops_stand, name_cell, view_stands, props_stand, variables_stand, StoreStands, stores_stand}
 
 -- ---- how much the code of files has
 
@@ -136,7 +138,9 @@ module _ (bundle : Bundle) (all : List CheckedComponent) (size : length all ≡ 
       let a = counted sizes n middle in
       let b = counted sizes n after in
       let below = λ (k : ℕ) (h : k < cells_in (size_at sizes n)). subst (λ m. k < m) (sym cell_count) h in
-      let stores = stores_stand sizes n (length cells) given 0 cells (omega arith) given_are in
+      let declares = (component_scopes c).top.declares in
+      let may_hold = All-append (GivenStands sizes n) given (variables bundle.names top declares) given_are (variables_stand sizes n bundle.names top declares tops_are) in
+      let stores = stores_stand sizes n (length cells) (holders bundle.names top given c) 0 cells (omega arith) may_hold in
       record {
         more = once_more (counted sizes n before) a b script.more markup.more;
         code = record {

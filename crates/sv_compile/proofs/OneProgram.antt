@@ -18,6 +18,7 @@ use Rattle.sv_lower.specs.Tops.{known_in}
 use Rattle.sv_scopes.specs.declared.scope.TheConstants.{VIEW}
 use Rattle.sv_compile.specs.declared.files.Sheet.{Sheet}
 use Rattle.sv_compile.specs.Constants.{all_constants, givens}
+use Rattle.sv_compile.specs.Holders.{holders}
 use Rattle.sv_compile.specs.Sheet.{parts}
 use Rattle.sv_compile.specs.TopLevel.{tops, cell_of, prop_of, reactive_cells, stores_from}
 use Rattle.sv_resolve.specs.declared.cells.Scopes.{Scopes}
@@ -44,7 +45,7 @@ component_same bundle c a b scopes order =
     let made : Scopes → List ℕ → Numbers CodeComponent =
     λ scopes order.
     let top = tops bundle.names scopes.cells given in
-    let own : Sheet = record { cells = scopes.cells; props = filter_map (prop_of top) (all_props stmts); reactive = reactive_cells scopes.cells stmts; stores = stores_from given 0 scopes.cells; view = cell_of (known_in top.known VIEW); constants = length (all_constants stmts); runs = runs scopes.cells (reactives stmts) order } in
+    let own : Sheet = record { cells = scopes.cells; props = filter_map (prop_of top) (all_props stmts); reactive = reactive_cells scopes.cells stmts; stores = stores_from (holders bundle.names top given c) 0 scopes.cells; view = cell_of (known_in top.known VIEW); constants = length (all_constants stmts); runs = runs scopes.cells (reactives stmts) order } in
     parts c own (record { tops = top; cells = scopes.cells; children = tag_files bundle.files stmts }) [] in
     ap (λ s. made s a.order.items) scopes ∙ ap (made b.scopes) order
 

@@ -8,8 +8,8 @@ use Rattle.std.proofs.lemmas.List.{drop_more, append_assoc, length-map}
 use Rattle.sv_ast.specs.declared.names.Ref.{Ref}
 use Rattle.sv_ast.specs.declared.script_tree.Stmt.{Stmt}
 use Rattle.sv_code.specs.declared.program.Run.{Run}
-use Rattle.sv_names.specs.Uses.{read_names, assigned_names}
-use Rattle.sv_check.specs.Waiting.{is_reactive, reads as stmt_reads}
+use Rattle.sv_names.specs.Uses.{read_names}
+use Rattle.sv_check.specs.Waiting.{is_reactive, sets, reads as stmt_reads}
 use Rattle.sv_order.specs.declared.reads.Reads.{Reads}
 use Rattle.sv_order.specs.ReactiveOrder.{IsEachOnce}
 use Rattle.sv_compile.specs.Runs.{reactives_from, reactives, run, run_at, runs}
@@ -51,9 +51,9 @@ once_below list order once k d within =
     below_by list order t (nat_lt t (length list)) refl (once t) (counted t order k d within refl)
 
 -- an order in which each reactive statement stands once has their numbers
-pub numbers_below : (stmts : List Stmt) (order : List ℕ) → IsEachOnce (stmt_reads stmts) order → (k d : ℕ) → k < length order → slice_index_or order k d < length (reactives stmts)
-numbers_below stmts order once k d within =
-    let low = once_below (stmt_reads stmts) order once k d within in
-    let many : length (stmt_reads stmts) ≡ length (filter is_reactive stmts) = length-map (filter is_reactive stmts) (λ s. record { reads = read_names s; sets = assigned_names s }) in
+pub numbers_below : (cells : List Ref) (stmts : List Stmt) (order : List ℕ) → IsEachOnce (stmt_reads cells stmts) order → (k d : ℕ) → k < length order → slice_index_or order k d < length (reactives stmts)
+numbers_below cells stmts order once k d within =
+    let low = once_below (stmt_reads cells stmts) order once k d within in
+    let many : length (stmt_reads cells stmts) ≡ length (filter is_reactive stmts) = length-map (filter is_reactive stmts) (λ s. record { reads = read_names s; sets = sets cells s }) in
     let same = length_placed 0 stmts in
     omega arith

@@ -1,5 +1,5 @@
 -- What names stand for at the top of a file is there.
-use Rattle.std.proofs.Common.{◌≡◌, ℕ, zero, suc, ◌+◌, ◌<◌, ◌≤◌, Bool, true, false, List, [], ◌∷◌, ◌++◌, Option, None, Some, length, map, option_map, position, refl, sym, ap, subst, ◌∙◌, arith}
+use Rattle.std.proofs.Common.{◌≡◌, ℕ, zero, suc, ◌+◌, ◌<◌, ◌≤◌, Bool, true, false, List, [], ◌∷◌, ◌++◌, Option, None, Some, length, map, filter, option_map, position, refl, sym, ap, subst, ◌∙◌, arith}
 use Rattle.std.specs.List.{All, filter_map, flat_map, cons_option}
 use Rattle.std.specs.Prelude.{find, is_some, slice_get, cond, if◌then◌else◌}
 use Rattle.std.specs.Option.{option_to_list}
@@ -40,6 +40,9 @@ use Rattle.sv_names.specs.Distinct.{same_ref}
 use Rattle.sv_compile.specs.declared.constants.Given.{Given}
 use Rattle.sv_compile.specs.declared.imports.TheConstants.{LIVES}
 use Rattle.sv_compile.specs.Constants.{same_name, all_constants, numbered_from, life_among, place_in, export_at, import_of, spec_given, imported_layer, imported, givens}
+use Rattle.sv_compile.specs.Holders.{placed_name, variable, variables}
+use Rattle.sv_resolve.specs.Cells.{is_variable}
+use Rattle.sv_scopes.specs.declared.scope.Declared.{Declared}
 use Rattle.sv_compile.specs.TopLevel.{cells_from, given_name, built, all_built, tops, cell_of, prop_of, holder, store_at, stores_from}
 
 -- ---- how much files have
@@ -258,6 +261,16 @@ module _ (sizes : List Size) (file : ℕ) where
   pub props_stand : (top : Tops) (names : List Ref) → TopsThere sizes file top → All (λ (p : Prop). p.cell < cells_in (size_at sizes file)) (filter_map (prop_of top) names)
   props_stand top names h =
       filter_all (λ (p : Prop). p.cell < cells_in (size_at sizes file)) (prop_of top) names (λ name p is. prop_stands _ (cell_of (known_in top.known name)) p (λ n cell. name_cell top name n h cell) is)
+
+  -- a variable stands for what is there
+  variable_stands : (named : Named) (o : Option Known) (g : Given) → ((k : Known) → o ≡ Some k → Stands sizes file k) → option_map (λ (k : Known). record { named = named; known = k }) o ≡ Some g → GivenStands sizes file g
+  variable_stands named None g h is = absurd (none-some g is)
+  variable_stands named (Some k) g h is = subst (GivenStands sizes file) (same_Some (record { named = named; known = k }) g is) (h k refl)
+
+  pub variables_stand : (table : Table) (top : Tops) (ds : List Declared) → TopsThere sizes file top → All (GivenStands sizes file) (variables table top ds)
+  variables_stand table top ds h =
+      filter_all (GivenStands sizes file) (variable table top) (filter (λ d. is_variable d.by) ds)
+      (λ d g is. variable_stands (placed_name table d) (known_in top.known (Plain d.name)) g (λ k found. found_stands top.known (Plain d.name) k h found) is)
 
   -- a store cell is one of so many, and what holds the store is there
   pub record StoreStands (count : ℕ) (s : StoreCell) : Type 0 where

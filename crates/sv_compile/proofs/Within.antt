@@ -8,7 +8,8 @@ use Rattle.sv_ast.specs.declared.files.SourceFile.{SourceFile}
 use Rattle.sv_ast.specs.declared.script_tree.Stmt.{Stmt}
 use Rattle.sv_ast.specs.declared.names.Ref.{Ref}
 use Rattle.sv_check.specs.declared.checked.CheckedComponent.{CheckedComponent}
-use Rattle.sv_check.specs.Checked.{told_scopes, IsChecked, AreChecked}
+use Rattle.sv_check.specs.Checked.{IsChecked, AreChecked}
+use Rattle.sv_check.specs.Files.{told_scopes}
 use Rattle.sv_names.specs.Distinct.{has}
 use Rattle.sv_resolve.specs.declared.cells.Scopes.{Scopes}
 use Rattle.sv_code.proofs.Each.{each_append, each_mono}

@@ -17,6 +17,7 @@ use Rattle.sv_code.specs.declared.program.Module.{Module as CodeModule}
 use Rattle.sv_code.specs.declared.program.Program.{Program}
 use Rattle.sv_code.specs.declared.program.ProgramFile.{ProgramFile}
 use Rattle.sv_compile.specs.Constants.{all_constants, givens}
+use Rattle.sv_compile.specs.Holders.{holders}
 use Rattle.sv_compile.specs.Sheet.{sheet, parts}
 use Rattle.sv_compile.specs.TopLevel.{tops}
 use Rattle.sv_fragments.specs.declared.around.Tables.{Tables}
@@ -36,7 +37,7 @@ unfoldable pub component : Bundle → Component → CheckedComponent → Numbers
 component bundle c told =
     let given = givens bundle.names bundle.files c.script.stmts in
     let top = tops bundle.names told.scopes.cells given in
-    parts c (sheet top given c.script.stmts told) (around bundle.files c.script.stmts told top) []
+    parts c (sheet top (holders bundle.names top given c) c.script.stmts told) (around bundle.files c.script.stmts told top) []
 
 -- ---- files
 

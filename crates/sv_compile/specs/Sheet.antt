@@ -20,12 +20,13 @@ use Rattle.sv_lower.specs.Tops.{Tops, known_in}
 use Rattle.sv_scopes.specs.declared.scope.TheConstants.{VIEW}
 use Rattle.sv_slots.specs.Sheets.{all_props}
 
+-- by what names stand for, what may hold a store, the statements and what is told of them
 abbrev pub sheet : Tops → List Given → List Stmt → CheckedComponent → Sheet
-sheet top given stmts told = record {
+sheet top holders stmts told = record {
   cells = told.scopes.cells;
   props = filter_map (prop_of top) (all_props stmts);
   reactive = reactive_cells told.scopes.cells stmts;
-  stores = stores_from given 0 told.scopes.cells;
+  stores = stores_from holders 0 told.scopes.cells;
   view = cell_of (known_in top.known VIEW);
   constants = length (all_constants stmts);
   runs = runs told.scopes.cells (reactives stmts) told.order.items;

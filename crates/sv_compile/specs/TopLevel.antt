@@ -76,7 +76,7 @@ reactive_cells cells stmts = numbers cells (filter (λ cell. is_plain cell && no
 
 -- ---- stores
 
--- what is to hold the store of a name: a constant, or whatever is imported under the name
+-- what is to hold the store of a name, among what may hold one
 abbrev pub holder : List Given → Name → Option Given
 holder given name = find (λ g. same_name g.named.name name) given
 

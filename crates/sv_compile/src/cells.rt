@@ -95,7 +95,7 @@ fn add_decls(names: &mut Distinct, decls: &[Decl]) -> Result<(), NoMemory>
     Ok(())
 }
 
-/// The store cells of a component.
+/// The store cells of a component, of which these may hold stores.
 pub(crate) fn stores_of(
     alloc: Global,
     given: &[Given],
@@ -127,7 +127,7 @@ fn add_store(stores: &mut StoreCells, given: &[Given], cell: u8, name: Ref) -> R
     }
 }
 
-// What is to hold the store of a name: a constant, or whatever is imported under the name.
+// What is to hold the store of a name, among what may hold one.
 fn holder(given: &[Given], name: Name) -> Option<Given>
     ensures { result ≡ spec.holder given.now name }
 {

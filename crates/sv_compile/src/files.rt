@@ -10,6 +10,7 @@ ghost use Rattle.sv_lower.specs.Does.{Makes};
 
 use crate::cells::{cell_of, props_of, reactive_cells, stores_of};
 use crate::constants::{Given, all_constants, constant_number, givens};
+use crate::holders::add_variables;
 use crate::runs::{prop_names, runs_of};
 use crate::top_level::tops;
 use std::alloc::Global;
@@ -39,13 +40,14 @@ pub(crate) fn compile_component(
     ensures { Makes result (spec.component bundle.now c.now told.now tables.old) tables.new }
 {
     let stmts = c.script.stmts.as_slice();
-    let given = givens(alloc, bundle, stmts)?;
+    let mut given = givens(alloc, bundle, stmts)?;
     let tops = tops(
         alloc,
         &bundle.names,
         told.scopes.cells.as_slice(),
         given.as_slice(),
     )?;
+    add_variables(alloc, &mut given, &bundle.names, &tops, c)?;
     let sheet = sheet_of(alloc, &tops, given.as_slice(), stmts, told)?;
     let children = children_of(alloc, bundle.files.as_slice(), stmts)?;
     let around = Around {
@@ -72,13 +74,13 @@ struct Sheet {
 fn sheet_of(
     alloc: Global,
     tops: &TopNames<'_>,
-    given: &[Given],
+    holders: &[Given],
     stmts: &[Stmt],
     told: &CheckedComponent,
 ) -> Result<Sheet, NoMemory>
     requires few { length told.now.scopes.cells ≤ CELL_LIMIT }
     requires below { All (λ n. n < length (reactives stmts.now)) told.now.order.items }
-    ensures { IfOk result (λ sheet. sheet ≡ sheets.sheet tops.now given.now stmts.now told.now) }
+    ensures { IfOk result (λ sheet. sheet ≡ sheets.sheet tops.now holders.now stmts.now told.now) }
 {
     let cells = told.scopes.cells.as_slice();
     let props = prop_names(alloc, stmts)?;
@@ -86,7 +88,7 @@ fn sheet_of(
         cells: RefList::copy_of(alloc, cells)?,
         props: props_of(alloc, tops, props.as_slice())?,
         reactive: reactive_cells(alloc, cells, stmts)?,
-        stores: stores_of(alloc, given, cells)?,
+        stores: stores_of(alloc, holders, cells)?,
         view: cell_of(tops, VIEW),
         constants: constant_count(alloc, stmts)?,
         runs: runs_of(alloc, cells, stmts, &told.order)?,

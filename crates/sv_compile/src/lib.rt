@@ -4,6 +4,7 @@
 mod cells;
 mod constants;
 mod files;
+mod holders;
 mod imports;
 mod laws;
 mod modules;
