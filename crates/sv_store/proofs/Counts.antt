@@ -1,13 +1,13 @@
 -- How often a cell is subscribed, before and after a change.
-use Rattle.std.proofs.Common.{◌≡◌, ℕ, zero, suc, ◌+◌, ◌<◌, ◌≤◌, List, [], ◌∷◌, ◌++◌, ◌-◌, map, length, take, drop, get_or, slice_set, refl, sym, ap, ◌∙◌, arith, Bool, true, false, cond, nat_eq, sum_by, count_by, ⊎_elim}
+use Rattle.std.proofs.Common.{◌≡◌, ℕ, zero, suc, ◌+◌, ◌<◌, ◌≤◌, List, [], ◌∷◌, ◌++◌, map, length, take, drop, get_or, slice_set, refl, sym, subst, ap, ◌∙◌, arith, Bool, true, false, cond, nat_eq, sum_by, count_by, ⊎_elim}
+use Rattle.std.specs.Prelude.{not, Result, Ok, Err, OnOk, OnErr}
 use Rattle.std.specs.List.{filter, list_any}
 use Rattle.std.proofs.lemmas.Bool.{cases_Bool, cases_lt, and_parts, eqb-true, or_parts}
-use Rattle.std.proofs.lemmas.List.{length_push, length-append, length-map, length-take, length-drop, map-set}
+use Rattle.std.proofs.lemmas.List.{length-append, length-map, length-take, length-drop, map-set}
 use Rattle.std.proofs.lemmas.List.Edits.{map_over_more}
 use Rattle.sv_store.proofs.Places.{get_or-map}
 use Rattle.std.proofs.lemmas.List.Sums.{sum_by-cons, sum_by_push}
-use Rattle.sv_store.specs.Stores.{Subscriber, Store, changed_at, set_to, with_subscriber, same_subscriber, times, is_subscribed, without, is_other, dropped, subscription_count}
-use Rattle.sv_store.specs.Kept.{IsSound}
+use Rattle.sv_store.specs.Stores.{Subscriber, Store, changed_at, set_to, with_subscriber, same_subscriber, times, is_subscribed, without, without_subscriber, is_other, dropped, IsOnce}
 use Rattle.sv_value.specs.Value.{Val}
 
 -- a sum over stores of which one changed
@@ -27,12 +27,15 @@ sum-same F g each stores n = ⊎_elim
     (λ h. ap (sum_by F) (changed-past g stores n h))
     (cases_lt n (length stores))
 
+-- a sum over stores of which one has no more than it had
+sum-less : (F : Store → ℕ) (g : Store → Store) → ((s : Store) → F (g s) ≤ F s) → (stores : List Store) (n : ℕ) → sum_by F (changed_at g stores n) ≤ sum_by F stores
+sum-less F g each [] n = omega arith
+sum-less F g each (s ∷ stores) zero = let e = sum_by-cons F s stores in let e' = sum_by-cons F (g s) stores in let k = each s in omega (arith, e, e', k)
+sum-less F g each (s ∷ stores) (suc n) = let e = sum_by-cons F s stores in let e' = sum_by-cons F s (changed_at g stores n) in let k = sum-less F g each stores n in omega (arith, e, e', k)
+
 -- a value changes no subscription
-pub sound-set : (total : ℕ) (stores : List Store) (n : ℕ) (v : Val) → IsSound total stores → IsSound total (changed_at (set_to v) stores n)
-sound-set total stores n v s = record {
-  counted = s.counted ∙ sym (sum-same (λ t. length t.subscribers) (set_to v) (λ t. refl) stores n);
-  once = λ sub. let e = sum-same (λ t. count_by (same_subscriber sub) t.subscribers) (set_to v) (λ t. refl) stores n in let o = s.once sub in omega (arith, e, o);
-}
+pub once-set : (stores : List Store) (n : ℕ) (v : Val) → IsOnce stores → IsOnce (changed_at (set_to v) stores n)
+once-set stores n v once sub = let e = sum-same (λ t. count_by (same_subscriber sub) t.subscribers) (set_to v) (λ t. refl) stores n in let o = once sub in omega (arith, e, o)
 
 count_by-none : {A : Type 0} (p : A → Bool) (xs : List A) → list_any p xs ≡ false → count_by p xs ≡ 0
 count_by-none p [] h = refl
@@ -61,18 +64,23 @@ same_from a b h =
     λ k. record { inst = i k; cell = c k }
 
 -- one more subscription of a cell that had none
-pub sound-more : (total : ℕ) (stores : List Store) (n : ℕ) (sub : Subscriber) → IsSound total stores → is_subscribed stores sub ≡ false → n < length stores → IsSound (total + 1) (changed_at (with_subscriber sub) stores n)
-sound-more total stores n sub s fresh h = record {
-  counted = let k = sum-changed (λ t. length t.subscribers) (with_subscriber sub) 1 (λ t. length_push t.subscribers sub) stores n h in let c = s.counted in omega (arith, k, c);
-  once = λ other. ⊎_elim
-      (λ b. let k = added other in let z = times-none other stores (ap (is_subscribed stores) (same_from other sub b) ∙ fresh) in let w : ◌≡◌ {A = ℕ} (cond (same_subscriber other sub) 1 0) 1 = rw b refl in omega (arith, k, z, w))
-      (λ b. let k = added other in let o = s.once other in let w : ◌≡◌ {A = ℕ} (cond (same_subscriber other sub) 1 0) 0 = rw b refl in omega (arith, k, o, w))
-      (cases_Bool (same_subscriber other sub));
-}
+pub once-more : (stores : List Store) (n : ℕ) (sub : Subscriber) → IsOnce stores → is_subscribed stores sub ≡ false → IsOnce (changed_at (with_subscriber sub) stores n)
+once-more stores n sub once fresh = ⊎_elim (λ h other. inside h other) (λ h. rw (changed-past (with_subscriber sub) stores n h) once) (cases_lt n (length stores))
   where
-    added : (other : Subscriber) → times other (changed_at (with_subscriber sub) stores n) ≡ times other stores + cond (same_subscriber other sub) 1 0
-    added other = sum-changed (λ t. count_by (same_subscriber other) t.subscribers) (with_subscriber sub) (cond (same_subscriber other sub) 1 0)
+    added : n < length stores → (other : Subscriber) → times other (changed_at (with_subscriber sub) stores n) ≡ times other stores + cond (same_subscriber other sub) 1 0
+    added h other = sum-changed (λ t. count_by (same_subscriber other) t.subscribers) (with_subscriber sub) (cond (same_subscriber other sub) 1 0)
         (λ t. sum_by_push (λ y. cond (same_subscriber other y) 1 0) t.subscribers sub) stores n h
+
+    inside : n < length stores → (other : Subscriber) → times other (changed_at (with_subscriber sub) stores n) ≤ 1
+    inside h other = ⊎_elim
+        (λ b. let k = added h other in let z = times-none other stores (ap (is_subscribed stores) (same_from other sub b) ∙ fresh) in let w : ◌≡◌ {A = ℕ} (cond (same_subscriber other sub) 1 0) 1 = rw b refl in omega (arith, k, z, w))
+        (λ b. let k = added h other in let o = once other in let w : ◌≡◌ {A = ℕ} (cond (same_subscriber other sub) 1 0) 0 = rw b refl in omega (arith, k, o, w))
+        (cases_Bool (same_subscriber other sub))
+
+-- or of one that could not be made
+pub once-tried : {A E : Type 0} (r : Result A E) (old new : List Store) (n : ℕ) (sub : Subscriber) → IsOnce old → is_subscribed old sub ≡ false → OnOk r (new ≡ changed_at (with_subscriber sub) old n) → OnErr r (new ≡ old) → IsOnce new
+once-tried (Ok x) old new n sub once fresh is same = subst IsOnce (sym is) (once-more old n sub once fresh)
+once-tried (Err e) old new n sub once fresh is same = subst IsOnce (sym same) once
 
 count-filter : {A : Type 0} (p q : A → Bool) (xs : List A) → count_by p (filter q xs) ≤ count_by p xs
 count-filter p q [] = omega arith
@@ -94,36 +102,19 @@ times-dropped sub n (s ∷ stores) =
     omega (arith, e, e', c, r)
 
 -- less subscriptions stand once at most as well
-pub sound-dropped : (total count n : ℕ) (stores : List Store) → IsSound total stores → count ≡ subscription_count (dropped stores n) → IsSound count (dropped stores n)
-sound-dropped total count n stores s c = record { counted = c; once = λ sub. let t = times-dropped sub n stores in let o = s.once sub in omega (arith, t, o) }
+pub once-dropped : (n : ℕ) (stores : List Store) → IsOnce stores → IsOnce (dropped stores n)
+once-dropped n stores once sub = let t = times-dropped sub n stores in let o = once sub in omega (arith, t, o)
 
-count-set : {A : Type 0} (f : A → Store) (xs : List A) (i : ℕ) (d y : A) → i < length xs → subscription_count (map f (slice_set xs i y)) + length (f (get_or xs i d)).subscribers ≡ subscription_count (map f xs) + length (f y).subscribers
-count-set f [] i d y h = absurd (omega arith)
-count-set f (x ∷ xs) zero d y h =
-    let a = sum_by-cons (λ s. length s.subscribers) (f x) (map f xs) in
-    let b = sum_by-cons (λ s. length s.subscribers) (f y) (map f xs) in
-    omega (arith, a, b)
-count-set f (x ∷ xs) (suc i) d y h =
-    let a = sum_by-cons (λ s. length s.subscribers) (f x) (map f xs) in
-    let b = sum_by-cons (λ s. length s.subscribers) (f x) (map f (slice_set xs i y)) in
-    let r = count-set f xs i d y (omega arith) in
-    omega (arith, a, b, r)
+pub once-less : (stores : List Store) (n : ℕ) (sub : Subscriber) → IsOnce stores → IsOnce (changed_at (without_subscriber sub) stores n)
+once-less stores n sub once other =
+    let t = sum-less (λ t. count_by (same_subscriber other) t.subscribers) (without_subscriber sub) (λ t. count-filter (same_subscriber other) (λ x. not (same_subscriber sub x)) t.subscribers) stores n in
+    let o = once other in
+    omega (arith, t, o)
 
 -- the subscriptions of an instance go from the store at a place, where they went from those before it
-module _ {A : Type 0} (f : A → Store) (old : List Store) (entries : List A) (n i left lost : ℕ) (d y : A) (inside : i < length entries)
-    (counted : left ≡ subscription_count (map f entries)) (some : lost + length (f y).subscribers ≡ length (f (get_or entries i d)).subscribers) where
-  pub drop-fits : lost ≤ left
-  drop-fits = let e = count-set f entries i d y inside in omega (arith, e, counted, some)
-
-  pub drop-counted : left - lost ≡ subscription_count (map f (slice_set entries i y))
-  drop-counted = let e = count-set f entries i d y inside in omega (arith, e, counted, some)
-
-  pub drop-more : map f entries ≡ dropped (take i old) n ++ drop i old → f y ≡ without n (f (get_or entries i d)) → map f (slice_set entries i y) ≡ dropped (take (i + 1) old) n ++ drop (i + 1) old
-  drop-more done e =
-      let long : i < length old = omega (arith, inside, length-map entries f, ap length done, length-append (dropped (take i old) n) (drop i old), length-map (take i old) (without n), length-take i old, length-drop i old) in
-      map-set f entries i y ∙ ap (slice_set (map f entries) i) e
-      ∙ map_over_more (without n) old (map f entries) i (f (get_or entries i d)) long done (get_or-map f entries i d (f (get_or entries i d)) inside)
-
--- behind the last store nothing is subscribed
-pub sound-past : (total : ℕ) (g : Store → Store) (stores : List Store) (n : ℕ) → IsSound total stores → length stores ≤ n → IsSound total (changed_at g stores n)
-sound-past total g stores n s h = rw (changed-past g stores n h) s
+pub drop-more : {A : Type 0} (f : A → Store) (old : List Store) (entries : List A) (n i : ℕ) (d y : A) → i < length entries → map f entries ≡ dropped (take i old) n ++ drop i old → f y ≡ without n (f (get_or entries i d))
+    → map f (slice_set entries i y) ≡ dropped (take (i + 1) old) n ++ drop (i + 1) old
+drop-more f old entries n i d y inside done e =
+    let long : i < length old = omega (arith, inside, length-map entries f, ap length done, length-append (dropped (take i old) n) (drop i old), length-map (take i old) (without n), length-take i old, length-drop i old) in
+    map-set f entries i y ∙ ap (slice_set (map f entries) i) e
+    ∙ map_over_more (without n) old (map f entries) i (f (get_or entries i d)) long done (get_or-map f entries i d (f (get_or entries i d)) inside)

@@ -1,7 +1,7 @@
 -- How stores are kept in memory.
-use Rattle.std.specs.Prelude.{◌≡◌, ℕ, List, map}
+use Rattle.std.specs.Prelude.{List, map}
 use Rattle.sv_value.specs.View.{view_of}
-use Rattle.sv_store.specs.Stores.{Subscriber, Store, subscription_count, IsOnce}
+use Rattle.sv_store.specs.Stores.{Subscriber, Store}
 use Rattle.sv_store.specs.declared.stores.Sub.{Sub}
 use Rattle.sv_store.specs.declared.stores.Entry.{Entry}
 
@@ -13,8 +13,3 @@ store_of e = record { value = view_of e.value; subscribers = map subscriber_of e
 
 abbrev pub stores_of : List Entry → List Store
 stores_of entries = map store_of entries
-
--- the number of subscriptions is kept, and each cell is subscribed once at most
-pub record IsSound (total : ℕ) (stores : List Store) : Type 0 where
-  pub counted : total ≡ subscription_count stores
-  pub once : IsOnce stores

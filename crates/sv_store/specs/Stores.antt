@@ -71,9 +71,17 @@ is_subscribed stores sub = list_any (λ s. list_any (same_subscriber sub) s.subs
 abbrev pub with_subscriber : Subscriber → Store → Store
 with_subscriber sub s = record s { subscribers = s.subscribers ++ sub ∷ [] }
 
--- the cell is subscribed to a store, unless it is subscribed already
+-- a cell is subscribed to a store, behind its other subscribers
 abbrev pub subscribed : List Store → ℕ → Subscriber → List Store
-subscribed stores id sub = if is_subscribed stores sub then stores else changed_at (with_subscriber sub) stores id
+subscribed stores id sub = changed_at (with_subscriber sub) stores id
+
+-- a store without a subscriber
+abbrev pub without_subscriber : Subscriber → Store → Store
+without_subscriber sub s = record s { subscribers = filter (λ other. not (same_subscriber sub other)) s.subscribers }
+
+-- a cell is no longer subscribed to a store
+abbrev pub unsubscribed : List Store → ℕ → Subscriber → List Store
+unsubscribed stores id sub = changed_at (without_subscriber sub) stores id
 
 -- whether a subscriber is of another instance
 abbrev pub is_other : ℕ → Subscriber → Bool

@@ -1,11 +1,11 @@
 // Stores and their subscribers.
-ghost use Rattle.std.specs.Prelude.{◌≡◌, ◌++◌, ◌∷◌, [], OnOk, OnErr, IfOk, length, map, option_map, option_copied, ◌+◌, ◌≤◌, nat_lt};
+ghost use Rattle.std.specs.Prelude.{◌≡◌, ◌++◌, ◌∷◌, [], OnOk, OnErr, IfOk, length, map, option_map, option_copied, ◌+◌, ◌<◌, ◌≤◌, false};
 ghost use Rattle.sv_value.specs.View.{view_of};
-ghost use Rattle.sv_store.specs.Stores.{value_at, subscribers_at, made, differs_at, with_value, is_subscribed, subscribed, dropped, subscription_count, IsOnce, changed_at, set_to, with_subscriber, without, is_other, same_subscriber};
-ghost use Rattle.std.specs.List.{filter, list_any};
+ghost use Rattle.sv_store.specs.Stores.{value_at, subscribers_at, made, differs_at, with_value, is_subscribed, subscribed, dropped, unsubscribed, without_subscriber, subscription_count, IsOnce, changed_at, set_to, with_subscriber, without};
 ghost use Rattle.sv_store.specs.Kept.{subscriber_of, store_of, stores_of};
 ghost use Rattle.sv_value.specs.Change.{differs};
 
+use crate::seat::Seat;
 use std::alloc::Global;
 use std::marker::Model;
 use sv_base::NoMemory;
@@ -30,7 +30,6 @@ struct Entry {
 pub struct Stores {
     alloc: Global,
     entries: Vec<Entry>,
-    total: u64,
 }
 
 impl Model for Stores {
@@ -42,11 +41,12 @@ impl Model for Stores {
 
     ghost coded = { coded_list store_code };
 
-    ghost use Rattle.sv_store.specs.Kept.{stores_of, IsSound};
+    ghost use Rattle.sv_store.specs.Kept.{stores_of};
+    ghost use Rattle.sv_store.specs.Stores.{IsOnce};
 
     ghost view = { λ a. stores_of a.entries.items };
 
-    ghost invariant = { λ a. IsSound a.total (stores_of a.entries.items) };
+    ghost invariant = { λ a. IsOnce (stores_of a.entries.items) };
 }
 
 impl Stores {
@@ -57,7 +57,6 @@ impl Stores {
         Ok(Stores {
             alloc,
             entries: Vec::new(alloc),
-            total: 0,
         })
     }
 
@@ -78,7 +77,8 @@ impl Stores {
 
     /// How many stores there are.
     pub fn len(&self) -> usize
-        ensures { result ≡ length self.now }
+        ensures count { result ≡ length self.now }
+        ensures once { IsOnce self.now }
     {
         self.entries.len()
     }
@@ -107,44 +107,59 @@ impl Stores {
         subscribers_of(&self.entries, id as usize)
     }
 
-    /// How many subscriptions there are.
-    pub fn subscriptions(&self) -> u64
-        ensures count { result ≡ subscription_count self.now }
-        ensures once { IsOnce self.now }
+    /// How many subscriptions there are; `NoMemory` where no memory could hold so many.
+    pub fn subscriptions(&self) -> Result<u64, NoMemory>
+        ensures { IfOk result (λ count. count ≡ subscription_count self.now) }
     {
-        self.total
+        let mut count: u64 = 0;
+        for entry in &self.entries {
+            let more = entry.subscribers.len() as u64;
+            count = count.checked_add(more).ok_or(NoMemory)?;
+        }
+        Ok(count)
     }
 
-    /// Whether a cell is subscribed to a store.
-    pub fn is_subscribed(&self, sub: Sub) -> bool
-        ensures { result ≡ is_subscribed self.now (subscriber_of sub) }
-    {
-        is_in_some(&self.entries, sub)
-    }
-
-    /// Subscribes a cell to a store, behind its other subscribers. Where the store was never made, or the cell is subscribed
-    /// to a store, nothing changes.
+    /// Subscribes a cell that is subscribed to no store, behind the other subscribers. Where the store was never made, nothing
+    /// changes.
     pub fn subscribe(&mut self, id: u32, sub: Sub) -> Result<(), NoMemory>
+        requires { is_subscribed self.old (subscriber_of sub) ≡ false }
         ensures ok { OnOk result (self.new ≡ subscribed self.old id (subscriber_of sub)) }
         ensures err { OnErr result (self.new ≡ self.old) }
     {
-        if self.is_subscribed(sub) {
-            return Ok(());
-        }
-        let Some(total) = self.total.checked_add(1) else {
+        push_subscriber(&mut self.entries, id as usize, sub)
+    }
+
+    /// Room for so many subscribers of a store more than it has.
+    pub fn seat(&self, id: u32, more: usize) -> Result<Seat, NoMemory>
+        ensures { IfOk result (λ seat. length (subscribers_at self.now id) + more ≤ seat) }
+    {
+        let Some(count) = self.subscribers(id).len().checked_add(more) else {
             return Err(NoMemory);
         };
-        if add_subscriber(&mut self.entries, id as usize, sub)? {
-            self.total = total;
-        }
-        Ok(())
+        Seat::new(self.alloc, count)
+    }
+
+    /// The same as [`Stores::subscribe`], in room that was made for it.
+    pub fn take_seat(&mut self, id: u32, sub: Sub, seat: Seat)
+        requires free { is_subscribed self.old (subscriber_of sub) ≡ false }
+        requires room { length (subscribers_at self.old id) < seat }
+        ensures { self.new ≡ subscribed self.old id (subscriber_of sub) }
+    {
+        add_subscriber(&mut self.entries, id as usize, sub, seat);
+    }
+
+    /// Takes the subscription of a cell to a store away; the others keep their order. Where there is none, nothing changes.
+    pub fn unsubscribe(&mut self, id: u32, sub: Sub)
+        ensures { self.new ≡ unsubscribed self.old id (subscriber_of sub) }
+    {
+        remove_subscriber(&mut self.entries, id as usize, sub);
     }
 
     /// Takes all subscriptions of an instance away.
     pub fn drop_of(&mut self, inst: Inst)
         ensures { self.new ≡ dropped self.old inst.number }
     {
-        self.total = drop_all(&mut self.entries, inst.number, self.total);
+        drop_all(&mut self.entries, inst.number);
     }
 }
 
@@ -179,42 +194,19 @@ fn subscribers_of(entries: &[Entry], id: usize) -> &[Sub]
     &[]
 }
 
-fn is_in_some(entries: &[Entry], sub: Sub) -> bool
-    ensures { result ≡ is_subscribed (stores_of entries.now) (subscriber_of sub) }
-{
-    for entry in entries {
-        if is_among(&entry.subscribers, sub) {
-            return true;
-        }
-    }
-    false
-}
-
-fn is_among(subscribers: &[Sub], sub: Sub) -> bool
-    ensures { result ≡ list_any (same_subscriber (subscriber_of sub)) (map subscriber_of subscribers.now) }
-{
-    for other in subscribers {
-        if sub.inst.number == other.inst.number && sub.cell == other.cell {
-            return true;
-        }
-    }
-    false
-}
-
-// Adds a subscriber to a store, and says whether there is one.
-fn add_subscriber(entries: &mut [Entry], id: usize, sub: Sub) -> Result<bool, NoMemory>
+// Adds a subscriber to a store, where there is one.
+fn push_subscriber(entries: &mut [Entry], id: usize, sub: Sub) -> Result<(), NoMemory>
     ensures ok { OnOk result (stores_of entries.new ≡ changed_at (with_subscriber (subscriber_of sub)) (stores_of entries.old) id) }
-    ensures there { IfOk result (λ there. there ≡ nat_lt id (length entries.old)) }
     ensures err { OnErr result (stores_of entries.new ≡ stores_of entries.old) }
 {
     if id < entries.len() {
-        push_subscriber(&mut entries[id], sub)?;
-        return Ok(true);
+        push_to(&mut entries[id], sub)
+    } else {
+        Ok(())
     }
-    Ok(false)
 }
 
-fn push_subscriber(entry: &mut Entry, sub: Sub) -> Result<(), NoMemory>
+fn push_to(entry: &mut Entry, sub: Sub) -> Result<(), NoMemory>
     ensures ok { OnOk result (store_of entry.new ≡ with_subscriber (subscriber_of sub) (store_of entry.old)) }
     ensures err { OnErr result (store_of entry.new ≡ store_of entry.old) }
 {
@@ -222,32 +214,46 @@ fn push_subscriber(entry: &mut Entry, sub: Sub) -> Result<(), NoMemory>
     Ok(())
 }
 
-// Takes the subscriptions of an instance away, and says how many are left.
-fn drop_all(entries: &mut [Entry], number: u64, total: u64) -> u64
-    requires { total ≡ subscription_count (stores_of entries.old) }
-    ensures dropped { stores_of entries.new ≡ dropped (stores_of entries.old) number }
-    ensures count { result ≡ subscription_count (stores_of entries.new) }
+// The same in room that was made for it.
+fn add_subscriber(entries: &mut [Entry], id: usize, sub: Sub, seat: Seat)
+    requires { length (subscribers_at (stores_of entries.old) id) < seat }
+    ensures { stores_of entries.new ≡ changed_at (with_subscriber (subscriber_of sub)) (stores_of entries.old) id }
 {
-    let mut left = total;
-    for index in 0..entries.len() {
-        left -= drop_from(&mut entries[index], number);
+    if id < entries.len() {
+        seat.take(&mut entries[id].subscribers, sub);
+    } else {
+        drop(seat);
     }
-    left
 }
 
-// Takes the subscriptions of an instance to one store away, and says how many there were.
-fn drop_from(entry: &mut Entry, number: u64) -> u64
-    ensures dropped { store_of entry.new ≡ without number (store_of entry.old) }
-    ensures count { result + length (store_of entry.new).subscribers ≡ length (store_of entry.old).subscribers }
+// Takes a subscriber of a store away, where there is one.
+fn remove_subscriber(entries: &mut [Entry], id: usize, sub: Sub)
+    ensures { stores_of entries.new ≡ changed_at (without_subscriber (subscriber_of sub)) (stores_of entries.old) id }
 {
-    let before = entry.subscribers.len();
-    keep_others(&mut entry.subscribers, number);
-    (before - entry.subscribers.len()) as u64
+    if id < entries.len() {
+        keep_apart(&mut entries[id], sub);
+    }
 }
 
-fn keep_others(subscribers: &mut Vec<Sub>, number: u64)
-    ensures kept { map subscriber_of subscribers.new.items ≡ filter (is_other number) (map subscriber_of subscribers.old.items) }
-    ensures bound { length subscribers.new.items ≤ length subscribers.old.items }
+fn keep_apart(entry: &mut Entry, sub: Sub)
+    ensures { store_of entry.new ≡ without_subscriber (subscriber_of sub) (store_of entry.old) }
 {
-    subscribers.retain(|sub| sub.inst.number != number);
+    entry.subscribers.retain(|other| sub.inst.number != other.inst.number
+        || sub.cell != other.cell);
+}
+
+// Takes the subscriptions of an instance away.
+fn drop_all(entries: &mut [Entry], number: u64)
+    ensures { stores_of entries.new ≡ dropped (stores_of entries.old) number }
+{
+    for index in 0..entries.len() {
+        keep_others(&mut entries[index], number);
+    }
+}
+
+// Takes the subscriptions of an instance to one store away.
+fn keep_others(entry: &mut Entry, number: u64)
+    ensures { store_of entry.new ≡ without number (store_of entry.old) }
+{
+    entry.subscribers.retain(|sub| sub.inst.number != number);
 }
