@@ -86,6 +86,16 @@ impl Cells {
         }
     }
 
+    /// Whether assigning a cell would count as a change.
+    pub fn changes(&self, cell: u8, value: &Value) -> bool
+        ensures { result ≡ changes self.now cell (view_of value.now) }
+    {
+        match self.get(cell) {
+            Some(cell) => differs(&cell.value, value),
+            None => false,
+        }
+    }
+
     /// Assigns a cell, and says whether that counts as a change. Where its declaration hasn't run, nothing changes.
     pub fn assign(&mut self, cell: u8, value: Value) -> bool
         requires { count_at self.old.now cell < u64.MAX }
