@@ -1,4 +1,4 @@
-// Values as they are written in rows: `null`, `undefined`, `true`, `false`, `store`, whole numbers, texts in double quotes, lists in square
+// Values as they are written in rows: `null`, `undefined`, `true`, `false`, `store` with its number, whole numbers, texts in double quotes, lists in square
 // brackets and objects in braces, with no spaces round their commas and colons.
 use std::alloc::Global;
 use std::mem;
@@ -126,11 +126,18 @@ fn plain(alloc: Global, word: &str) -> Result<Value, ValueFault> {
         "null" => Ok(Value::Null),
         "true" => Ok(Value::Bool(true)),
         "false" => Ok(Value::Bool(false)),
-        "store" => Ok(Value::Store(0)),
         _ => match word.strip_prefix('"') {
             Some(text) => make_text(alloc, text.strip_suffix('"').unwrap_or(text)),
-            None => Ok(number(word)),
+            None => Ok(store_or_number(word)),
         },
+    }
+}
+
+// A store by its number, as in `store1`; without one it is the first.
+fn store_or_number(word: &str) -> Value {
+    match word.strip_prefix("store") {
+        Some(rest) => Value::Store(rest.parse::<u32>().unwrap_or(0)),
+        None => number(word),
     }
 }
 

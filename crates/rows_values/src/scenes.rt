@@ -203,6 +203,7 @@ impl Scene {
         match outcome {
             Ok(()) => self.silent(),
             Err(AssignError::ReadOnly) => self.word("read only"),
+            Err(AssignError::NotAStore) => self.word("not a store"),
             Err(AssignError::NoMemory) => Err(NoMemory),
         }
     }
@@ -210,8 +211,8 @@ impl Scene {
     fn hand_down(&mut self, at: &str, word: &str) -> Result<String, NoMemory> {
         let at = self.at(at);
         let value = literal(self.alloc, word)?;
-        self.world.states.hand_down(at, value)?;
-        self.silent()
+        let outcome = self.world.states.hand_down(at, value);
+        self.assigned(outcome)
     }
 
     fn make_store(&mut self, word: &str) -> Result<String, NoMemory> {
@@ -233,14 +234,31 @@ impl Scene {
             "store" => self.make_store(rest),
             "set" => self.set_store(number(first), second),
             "value" => shown(self.alloc, self.world.states.store_value(number(rest))),
-            "subscribe" => {
-                let at = self.at(first);
-                self.world.states.subscribe(at, number(second))?;
-                self.silent()
-            }
-            "subscriptions" => self.count(self.world.subscriptions()),
+            "subscribe" => self.subscribe(first, None, Value::Store(number(second))),
+            "follow" => self.follow(first, self.at(second)),
+            "subscriptions" => self.count(self.world.subscriptions()?),
             _ => derived::happens(self, verb, rest),
         }
+    }
+
+    fn subscribe(
+        &mut self,
+        at: &str,
+        source: Option<u8>,
+        value: Value,
+    ) -> Result<String, NoMemory> {
+        let at = self.at(at);
+        self.world.states.subscribe(at, source, &value)?;
+        self.silent()
+    }
+
+    // A cell becomes that of the `$` name of a variable.
+    fn follow(&mut self, at: &str, variable: Sub) -> Result<String, NoMemory> {
+        let value = match self.world.cell(variable.inst, variable.cell) {
+            Some(cell) => cell.value.share()?,
+            None => Value::Undefined,
+        };
+        self.subscribe(at, Some(variable.cell), value)
     }
 
     /// What is asked of cells, and who waits.

@@ -8,11 +8,12 @@ use Rattle.sv_numbered.specs.Numbered.{at, altered}
 use Rattle.sv_derived.specs.Derived.{marked}
 use Rattle.sv_store.specs.Stores.{Subscriber, same_subscriber, with_value, subscribers_at, differs_at}
 use Rattle.sv_instance.specs.Cells as cells
+use Rattle.sv_instance.specs.Subscriptions.{subscription_at}
 use Rattle.sv_instance.specs.declared.instance.Instance.{Instance}
 use Rattle.sv_states.specs.States.{States, live, with_instance}
 use Rattle.sv_states.specs.Waiting.{is_waiting, has_shown, joins, queued, enqueued, times}
 use Rattle.sv_states.specs.Assignment.{changes_in, cell_stored, handing, taken, told, store_set, end_set, written}
-use Rattle.sv_states.specs.Sound.{IsSeen, is_to, has_subscription, is_subscriber, IsSound}
+use Rattle.sv_states.specs.Sound.{IsSeen, looks_at, has_subscription, is_subscriber, IsSound}
 use Rattle.sv_states.proofs.Altering.{at-altered_same, at-altered_none, at-altered_other, option_cases}
 use Rattle.sv_states.proofs.Later.{seen-assigned}
 use Rattle.sv_states.proofs.Times.{times_push}
@@ -45,7 +46,7 @@ calm-altered f s n k seen idle there subscriptions = record {
   seen = each_altered (λ m o. IsSeen o) f s.lives n k.seen (λ i _ p. seen i p);
   queued = each_altered (λ m o. times s.queue m ≡ cond (is_waiting o) 1 0) f s.lives n k.queued (λ i _ p. p ∙ ap (λ w. cond w 1 0) (sym (idle i)));
   shown = each_altered (λ m o. is_waiting o ≡ true → has_shown o ≡ true) f s.lives n k.shown (λ i _ p w. there i ∙ p (sym (idle i) ∙ w));
-  subscribed = each_altered (λ m o. (c id : ℕ) → is_subscriber s m c id ≡ has_subscription o c id) f s.lives n k.subscribed (λ i _ p c id. p c id ∙ ap (λ l. list_any (is_to c id) l) (sym (subscriptions i)));
+  subscribed = each_altered (λ m o. (c id : ℕ) → is_subscriber s m c id ≡ has_subscription o c id) f s.lives n k.subscribed (λ i _ p c id. p c id ∙ ap (λ l. looks_at id (subscription_at l c)) (sym (subscriptions i)));
 }
 
 joins_parts : (o : Option Instance) → joins o ≡ true → (is_waiting o ≡ false) × (has_shown o ≡ true)

@@ -1,7 +1,8 @@
 -- The states as they are kept, after each change.
 use Rattle.std.proofs.Common.{◌≡◌, ℕ, zero, suc, List, Some, slice_set, refl, arith, Result, Ok, Err, OnOk, OnErr, sym, ap, subst}
 use Rattle.sv_value.specs.Value.{Val}
-use Rattle.sv_numbered.specs.Numbered.{at}
+use Rattle.sv_numbered.specs.Numbered.{at, altered}
+use Rattle.sv_instance.specs.Bound.{Bound}
 use Rattle.sv_derived.specs.Derived.{Recipe}
 use Rattle.sv_store.specs.Stores.{Store, made}
 use Rattle.sv_instance.specs.Cells.{count_at, undeclared}
@@ -10,15 +11,17 @@ use Rattle.sv_instance.specs.Instance.{born}
 use Rattle.sv_instance.specs.declared.instance.Instance.{Instance}
 use Rattle.sv_instance.specs.declared.setup.Setup.{Setup}
 use Rattle.sv_states.specs.States.{States}
+use Rattle.sv_states.specs.Assignment.{with_bound}
 use Rattle.sv_states.specs.Change.{with_store, with_derived, with_setup, added}
 use Rattle.sv_states.specs.Prepared.{IsNew}
 use Rattle.sv_states.specs.Sound.{IsSound}
 use Rattle.sv_states.specs.Board.{seen_as, IsMade, IsReady, IsKept}
 use Rattle.sv_states.specs.declared.board.Board.{Board}
-use Rattle.sv_states.proofs.Sounding.{sound-store, sound-derived, sound-setup, sound-added}
+use Rattle.sv_states.proofs.Sounding.{sound-inert, sound-store, sound-derived, sound-setup, sound-added}
 use Rattle.sv_states.proofs.Making.{tally, made-same, made-store, made-derived}
 use Rattle.sv_states.proofs.Altering.{altered-some}
 use Rattle.sv_states.proofs.Ready.{written_back, counts_of}
+use Rattle.sv_states.proofs.Subscribing.{ready_bound}
 
 pub kept_as : (b : Board) (s : States) → seen_as b ≡ s → IsReady b → IsSound s → IsMade s → IsKept b
 kept_as b s is ready sound made = record { ready = ready; sound = subst IsSound (sym is) sound; made = subst IsMade (sym is) made }
@@ -56,3 +59,16 @@ new-born place cells constants = record { idle = refl; unshown = refl; uncounted
 pub kept-added : {A E : Type 0} (r : Result A E) (old new : Board) (i : Instance) → IsKept old → OnOk r (seen_as new ≡ added (seen_as old) i) → OnErr r (seen_as new ≡ seen_as old) → IsReady new → IsNew i → IsKept new
 kept-added (Ok x) old new i k is same ready fresh = kept_as new (added (seen_as old) i) is ready (sound-added (seen_as old) i fresh k.sound) k.made
 kept-added (Err e) old new i k is same ready fresh = kept_as new (seen_as old) same ready k.sound k.made
+
+-- a prop that is bound leaves what is kept so
+pub kept_bound : (b : Board) (n : ℕ) (x : Bound) → IsKept b → (new : Board) → new ≡ record b { lives = altered (with_bound x) b.lives n } → IsKept new
+kept_bound b n x k new is =
+    record {
+      ready = ready_bound b n x k.ready new is;
+      sound = subst (λ d. IsSound (seen_as d)) (sym is) (sound-inert (with_bound x) (seen_as b) n (λ i. refl) (λ i. refl) (λ i. refl) k.sound);
+      made = subst (λ d. IsMade (seen_as d)) (sym is) k.made;
+    }
+
+pub kept_tried : {E : Type 0} (r : Result (Unit {0}) E) (b : Board) (n : ℕ) (x : Bound) → IsKept b → (new : Board) → OnOk r (new ≡ record b { lives = altered (with_bound x) b.lives n }) → OnErr r (new ≡ b) → IsKept new
+kept_tried (Ok u) b n x k new is same = kept_bound b n x k new is
+kept_tried (Err e) b n x k new is same = subst IsKept (sym same) k

@@ -12,4 +12,7 @@ pub mod Due
 pub mod Dirt
 pub mod Sounding
 pub mod Making
+pub mod Naming
+pub mod Refusing
+pub mod Seating
 pub mod Keeping

@@ -1,27 +1,25 @@
 -- What holds at every moment, after each change.
-use Rattle.std.proofs.Common.{◌≡◌, ◌≢◌, ℕ, zero, suc, List, [], ◌∷◌, ◌++◌, length, Option, Some, None, refl, sym, ap, ◌∙◌, arith, Bool, true, false, cond, slice_set, is_some, nat_eq, ⊎_elim, subst}
+use Rattle.std.proofs.Common.{◌≡◌, ◌≢◌, ℕ, zero, suc, List, [], ◌∷◌, ◌++◌, length, Option, Some, None, refl, sym, ap, ◌∙◌, arith, true, false, cond, slice_set, is_some, nat_eq, ⊎_elim, subst}
 use Rattle.std.specs.Prelude.{not, ◌&&◌, ◌||◌}
 use Rattle.std.specs.List.{list_any, filter}
-use Rattle.std.proofs.lemmas.Bool.{cases_eq, cases_lt, cases_Bool, and_parts, not-true, eqb-true, eqb-false, eq-eqb, ne_eqb, true≢false}
-use Rattle.std.proofs.Math.Bool.{or-false, and_comm}
-use Rattle.std.proofs.lemmas.List.Folds.{list_any-append}
+use Rattle.std.proofs.lemmas.Bool.{cases_eq, cases_lt, cases_Bool, eqb-true, eqb-false, eq-eqb, ne_eqb, true≢false}
 use Rattle.std.proofs.lemmas.List.{get_or_append_left, get_or_push, get_or_past, length_push, get_or-set_same, get_or-set_other, set_past}
 use Rattle.sv_value.specs.Value.{Val}
 use Rattle.sv_view.specs.Cell.{Cell}
 use Rattle.sv_view.specs.Level.{View}
 use Rattle.sv_numbered.specs.Numbered.{at, altered}
 use Rattle.sv_derived.specs.Derived.{Derived, Recipe, with_one, done}
-use Rattle.sv_store.specs.Stores.{Store, Subscriber, same_subscriber, made, subscribers_at, value_at, changed_at, with_subscriber, is_subscribed, subscribed, is_other, dropped}
+use Rattle.sv_store.specs.Stores.{Store, Subscriber, same_subscriber, made, subscribers_at, is_other, dropped}
 use Rattle.sv_instance.specs.Cells as cells
-use Rattle.sv_instance.specs.Bound.{Bound}
+use Rattle.sv_instance.specs.Subscriptions.{subscription_at}
 use Rattle.sv_instance.specs.declared.instance.Instance.{Instance}
 use Rattle.sv_instance.specs.declared.setup.Setup.{Setup}
-use Rattle.sv_states.specs.States.{States, live, with_instance, has_cell, value_in}
+use Rattle.sv_states.specs.States.{States, live, with_instance, has_cell}
 use Rattle.sv_states.specs.Waiting.{is_waiting, has_shown, enqueued, without, times, shown, snapped}
-use Rattle.sv_states.specs.Assignment.{Way, sent, sent_if, with_bound, bound_up, way_of, taken, computed}
-use Rattle.sv_states.specs.Change.{with_setup, added, removed, declared, with_view, viewed, with_store, with_derived, given, with_subscription, subscribed_over, subscribed_to}
+use Rattle.sv_states.specs.Assignment.{taken, written, computed}
+use Rattle.sv_states.specs.Change.{with_setup, added, removed, declared, with_view, viewed, with_store, with_derived, given}
 use Rattle.sv_states.specs.Prepared.{IsNew}
-use Rattle.sv_states.specs.Sound.{DirtyCell, IsLater, IsSeen, is_to, has_subscription, is_subscriber, IsSound}
+use Rattle.sv_states.specs.Sound.{DirtyCell, IsLater, IsSeen, looks_at, has_subscription, is_subscriber, IsSound}
 use Rattle.sv_states.proofs.Altering.{at-altered_same, at-altered_none, at-altered_other, option_cases}
 use Rattle.sv_states.proofs.Later.{seen-touched, seen-declared, seen-snapped, now-declared}
 use Rattle.sv_states.proofs.Times.{without-absent, times-without_same, times-without_other}
@@ -29,8 +27,8 @@ use Rattle.sv_states.proofs.Calm.{each_altered, calm_of, calm-altered, calm-enqu
 use Rattle.sv_states.proofs.Due.{due-altered, due-enqueued, due-taken, due-written, dirty-touched, touched-dirty}
 use Rattle.sv_states.proofs.Dirt.{IsWaiter, wait-enqueued, wait-altered, wait-taken, wait-written, sound_of, waiters_of}
 
-pub sound-sent : (s : States) (w : Way) (v : Val) → IsSound s → IsSound (sent w v s)
-sound-sent s w v k = sound_of (sent w v s) (calm-written w.cells w.store v s (calm_of s k)) (wait-written w.cells w.store v (λ _. ⊥) s (waiters_of s k)) (due-written w.cells w.store v s (calm_of s k) k.due)
+pub sound-written : (s : States) (ps : List Subscriber) (store : Option ℕ) (v : Val) → IsSound s → IsSound (written ps store v s)
+sound-written s ps store v k = sound_of (written ps store v s) (calm-written ps store v s (calm_of s k)) (wait-written ps store v (λ _. ⊥) s (waiters_of s k)) (due-written ps store v s (calm_of s k) k.due)
 
 pub sound-taken : (s : States) (p : Subscriber) (v : Val) → IsSound s → IsSound (taken s p v)
 sound-taken s p v k = sound_of (taken s p v) (calm-taken s p v (calm_of s k)) (wait-taken (λ _. ⊥) s p v (waiters_of s k)) (due-taken s p v (calm_of s k) k.due)
@@ -45,13 +43,6 @@ sound-inert f s n cells' idle subscriptions k = sound_of (with_instance f s n)
 
 pub sound-setup : (s : States) (n : ℕ) (setup : Setup) → IsSound s → IsSound (with_setup s n setup)
 sound-setup s n setup k = sound-inert (λ i. record i { setup = setup }) s n (λ i. refl) (λ i. refl) (λ i. refl) k
-
-sound-sent_if : (o : Option Val) (w : Way) (s : States) → IsSound s → IsSound (sent_if o w s)
-sound-sent_if None w s k = k
-sound-sent_if (Some v) w s k = sound-sent s w v k
-
-pub sound-bound : (s : States) (n : ℕ) (b : Bound) → IsSound s → IsSound (bound_up s n b)
-sound-bound s n b k = sound-sent_if (value_in (live s n) b.cell) (way_of s b.owner b.target) (with_instance (with_bound b) s n) (sound-inert (with_bound b) s n (λ i. refl) (λ i. refl) (λ i. refl) k)
 
 -- the cell that stands for the owner's view changed
 viewed_dirty : (s : States) (n c : ℕ) (view : View) → IsSound s → has_cell (live s n) c ≡ true → DirtyCell (live (with_instance (with_view c view) s n) n)
@@ -146,7 +137,7 @@ pub sound-derived : (s : States) (owner : ℕ) (r : Recipe) (v : Val) → IsSoun
 sound-derived s owner r v k = sound-graph (with_store s v) (with_one s.derived (length s.stores) owner r) (sound-store s v k)
 
 pub sound-computed : (s : States) (id : ℕ) (v : Val) → IsSound s → IsSound (computed s id v)
-sound-computed s id v k = sound-sent (record s { derived = done s.derived id }) (record { cells = []; store = Some id }) v (sound-graph s (done s.derived id) k)
+sound-computed s id v k = sound-written (record s { derived = done s.derived id }) [] (Some id) v (sound-graph s (done s.derived id) k)
 
 -- a fact of each instance, with one more, which has the place behind the last
 each_added : (P : ℕ → Option Instance → Type 0) (lives : List (Option Instance)) (i : Instance) → ((m : ℕ) → P m (at lives m)) → (P (length lives) None → P (length lives) (Some i)) → (m : ℕ) → P m (at (lives ++ Some i ∷ []) m)
@@ -166,7 +157,7 @@ sound-added s i new k = record {
   shown = each_added (λ _ o. is_waiting o ≡ true → has_shown o ≡ true) s.lives i k.shown (λ _ w. absurd (true≢false (sym w ∙ new.idle)));
   dirty = λ m c h. each_added (λ _ o. IsWaiter o) s.lives i (λ j. waiters_of s k j (λ e. e)) (λ _ d g. absurd (true≢false (sym g ∙ ap (λ x. is_some x && cells.is_dirty_since x i.cells.now d) new.unshown))) m c h;
   due = each_added (λ _ o. is_waiting o ≡ true → DirtyCell o) s.lives i k.due (λ _ w. absurd (true≢false (sym w ∙ new.idle)));
-  subscribed = each_added (λ m o. (c id : ℕ) → is_subscriber s m c id ≡ has_subscription o c id) s.lives i k.subscribed (λ p c id. p c id ∙ sym (ap (list_any (is_to c id)) new.unsubscribed));
+  subscribed = each_added (λ m o. (c id : ℕ) → is_subscriber s m c id ≡ has_subscription o c id) s.lives i k.subscribed (λ p c id. p c id ∙ sym (ap (λ l. looks_at id (subscription_at l c)) new.unsubscribed));
 }
 
 -- the subscribers of a store that are of other instances
@@ -220,79 +211,5 @@ sound-removed s n k = record {
         (λ b. let z : times s.queue n ≡ 0 = k.queued n ∙ ap (λ w. cond w 1 0) b in ap (λ q. times q n) (without-absent s.queue n z) ∙ z)
         (cases_Bool (is_waiting (live s n)))
 
-any_push : {A : Type 0} (f : A → Bool) (xs : List A) (x : A) → list_any f (xs ++ x ∷ []) ≡ (list_any f xs || f x)
-any_push f xs x = list_any-append f xs (x ∷ []) ∙ ap (λ b. list_any f xs || b) (or-false (f x))
-
-eqb-suc : (a b : ℕ) → nat_eq a b ≡ nat_eq (suc a) (suc b)
-eqb-suc a b = ⊎_elim (λ e. eq-eqb a b e ∙ sym (eq-eqb (suc a) (suc b) (ap suc e))) (λ h. ne_eqb a b h ∙ sym (ne_eqb (suc a) (suc b) (λ e. h (omega (arith, e))))) (cases_eq a b)
-
--- who is among the subscribers of a store when a store has one more
-any-subscribed : (stores : List Store) (id other : ℕ) (p q : Subscriber) (v : Val) → value_at stores id ≡ Some v
-    → list_any (same_subscriber q) (subscribers_at (changed_at (with_subscriber p) stores id) other) ≡ (list_any (same_subscriber q) (subscribers_at stores other) || (nat_eq id other && same_subscriber q p))
-any-subscribed [] id other p q v there = absurd (let e = there in cc)
-any-subscribed (x ∷ stores) zero zero p q v there = any_push (same_subscriber q) x.subscribers p
-any-subscribed (x ∷ stores) zero (suc other) p q v there =
-    sym (or-false (list_any (same_subscriber q) (subscribers_at stores other))) ∙ ap (λ b. list_any (same_subscriber q) (subscribers_at stores other) || (b && same_subscriber q p)) (sym (ne_eqb 0 (suc other) (λ e. cc)))
-any-subscribed (x ∷ stores) (suc id) zero p q v there =
-    sym (or-false (list_any (same_subscriber q) x.subscribers)) ∙ ap (λ b. list_any (same_subscriber q) x.subscribers || (b && same_subscriber q p)) (sym (ne_eqb (suc id) 0 (λ e. cc)))
-any-subscribed (x ∷ stores) (suc id) (suc other) p q v there =
-    any-subscribed stores id other p q v there ∙ ap (λ b. list_any (same_subscriber q) (subscribers_at stores other) || (b && same_subscriber q p)) (eqb-suc id other)
-
-eqb-sym : (a b : ℕ) → nat_eq a b ≡ nat_eq b a
-eqb-sym a b = ⊎_elim (λ e. eq-eqb a b e ∙ sym (eq-eqb b a (sym e))) (λ h. ne_eqb a b h ∙ sym (ne_eqb b a (λ e. h (sym e)))) (cases_eq a b)
-
-module _ (s : States) (p : Subscriber) (id : ℕ) (v : Val) (i : Instance) (there : live s p.inst ≡ Some i) (value : value_at s.stores id ≡ Some v) (k : IsSound s) where
-  abbrev put : Instance → Instance
-  put = with_subscription (record { cell = p.cell; store = id })
-
-  abbrev stores : List Store
-  stores = changed_at (with_subscriber p) s.stores id
-
-  told-same : (c other : ℕ) → list_any (same_subscriber (record { inst = p.inst; cell = c })) (subscribers_at stores other) ≡ has_subscription (Some (put i)) c other
-  told-same c other =
-      any-subscribed s.stores id other p (record { inst = p.inst; cell = c }) v value
-      ∙ ap (λ b. b || (nat_eq id other && same_subscriber (record { inst = p.inst; cell = c }) p)) (k.subscribed p.inst c other ∙ ap (λ o. has_subscription o c other) there)
-      ∙ ap (λ b. list_any (is_to c other) i.subscriptions || (nat_eq id other && (b && nat_eq c p.cell))) (eq-eqb p.inst p.inst refl)
-      ∙ ap (λ b. list_any (is_to c other) i.subscriptions || (nat_eq id other && b)) (eqb-sym c p.cell)
-      ∙ ap (λ b. list_any (is_to c other) i.subscriptions || b) (and_comm (nat_eq id other) (nat_eq p.cell c))
-      ∙ sym (any_push (is_to c other) i.subscriptions (record { cell = p.cell; store = id }))
-
-  told-other : (m c other : ℕ) → m ≢ p.inst → list_any (same_subscriber (record { inst = m; cell = c })) (subscribers_at stores other) ≡ has_subscription (live s m) c other
-  told-other m c other h =
-      any-subscribed s.stores id other p (record { inst = m; cell = c }) v value
-      ∙ ap (λ b. list_any (same_subscriber (record { inst = m; cell = c })) (subscribers_at s.stores other) || (nat_eq id other && (b && nat_eq c p.cell))) (ne_eqb m p.inst h)
-      ∙ ap (λ b. list_any (same_subscriber (record { inst = m; cell = c })) (subscribers_at s.stores other) || b) (and_comm (nat_eq id other) false)
-      ∙ or-false (list_any (same_subscriber (record { inst = m; cell = c })) (subscribers_at s.stores other))
-      ∙ k.subscribed m c other
-
-  sound-put : IsSound (record s { lives = altered put s.lives p.inst; stores = stores })
-  sound-put = record {
-    seen = each_altered (λ _ o. IsSeen o) put s.lives p.inst k.seen (λ _ _ q. q);
-    queued = each_altered (λ m o. times s.queue m ≡ cond (is_waiting o) 1 0) put s.lives p.inst k.queued (λ _ _ q. q);
-    shown = each_altered (λ _ o. is_waiting o ≡ true → has_shown o ≡ true) put s.lives p.inst k.shown (λ _ _ q. q);
-    dirty = λ m c h. each_altered (λ _ o. IsWaiter o) put s.lives p.inst (λ j. waiters_of s k j (λ e. e)) (λ _ _ q. q) m c h;
-    due = each_altered (λ _ o. is_waiting o ≡ true → DirtyCell o) put s.lives p.inst k.due (λ i _ q w. let d = q w in record { cell = d.cell; dirty = d.dirty });
-    subscribed = λ m c other. ⊎_elim
-        (λ same. subst (λ j. list_any (same_subscriber (record { inst = j; cell = c })) (subscribers_at stores other) ≡ has_subscription (at (altered put s.lives p.inst) j) c other) (sym same)
-        (told-same c other ∙ sym (ap (λ o. has_subscription o c other) (at-altered_same put s.lives p.inst i there))))
-        (λ different. told-other m c other different ∙ sym (ap (λ o. has_subscription o c other) (at-altered_other put s.lives p.inst m different)))
-        (cases_eq m p.inst);
-  }
-
-sound-given : (s : States) (p : Subscriber) (v : Val) → IsSound s → IsSound (given s p v)
+pub sound-given : (s : States) (p : Subscriber) (v : Val) → IsSound s → IsSound (given s p v)
 sound-given s p v k = ⊎_elim (λ b. rw b (sound-taken s p v k)) (λ b. rw b (sound-declared s p v k)) (cases_Bool (has_cell (live s p.inst) p.cell))
-
-pub sound-subscribed : (s : States) (p : Subscriber) (id : ℕ) → IsSound s → IsSound (subscribed_to s p id)
-sound-subscribed s p id k = ⊎_elim
-    (λ b. rw b (over (value_at s.stores id) refl (and_parts (is_some (live s p.inst)) (not (is_subscribed s.stores p)) b)))
-    (λ b. rw b k)
-    (cases_Bool (is_some (live s p.inst) && not (is_subscribed s.stores p)))
-  where
-    over : (o : Option Val) → value_at s.stores id ≡ o → (is_some (live s p.inst) ≡ true) × (not (is_subscribed s.stores p) ≡ true) → IsSound (subscribed_over o s p id)
-    over None e both = k
-    over (Some v) e both = ⊎_elim
-        (λ none. absurd (true≢false (sym both.0 ∙ ap is_some none)))
-        (λ some. let free : is_subscribed s.stores p ≡ false = not-true (is_subscribed s.stores p) both.1 in
-        let t : States = record s { lives = altered (with_subscription (record { cell = p.cell; store = id })) s.lives p.inst; stores = subscribed s.stores id p } in
-        sound-given t p v (rw free (sound-put s p id v some.0 some.1 e k)))
-        (option_cases (live s p.inst))

@@ -1,18 +1,17 @@
 -- Stores set, and cells subscribed to them.
-use Rattle.std.proofs.Common.{◌≡◌, ℕ, zero, suc, List, [], ◌∷◌, ◌++◌, Option, Some, None, refl, sym, ap, ◌∙◌, arith, true, false, is_some, slice_set, subst}
-use Rattle.std.specs.Prelude.{not, ◌&&◌}
-use Rattle.std.proofs.lemmas.Bool.{and_parts}
+use Rattle.std.proofs.Common.{◌≡◌, ℕ, zero, suc, List, [], ◌∷◌, ◌++◌, Option, Some, None, refl, sym, ap, ◌∙◌, arith, true, false, slice_set, subst}
 use Rattle.sv_value.specs.Value.{Val}
 use Rattle.sv_derived.specs.Derived.{Derived, marked}
-use Rattle.sv_store.specs.Stores.{Store, Subscriber, with_value, differs_at, value_at, subscribers_at, is_subscribed, subscribed}
+use Rattle.sv_store.specs.Stores.{Store, Subscriber, with_value, differs_at, subscribers_at}
 use Rattle.sv_numbered.specs.Numbered.{at, altered, altered_over}
 use Rattle.sv_instance.specs.Bound.{Bound}
 use Rattle.sv_instance.specs.declared.instance.Instance.{Instance}
 use Rattle.sv_instance.specs.declared.subscriptions.Subscription.{Subscription}
 use Rattle.sv_states.specs.States.{States, live}
-use Rattle.sv_states.specs.Assignment.{with_bound, told, store_set}
-use Rattle.sv_states.specs.Change.{with_subscription, subscribed_over, subscribed_to, given}
-use Rattle.sv_states.specs.Prepared.{may_subscribe, with_subscriptions, subscriptions_of}
+use Rattle.sv_states.specs.Assignment.{placed_at, with_bound, told, store_set}
+use Rattle.sv_states.specs.Moving.{Goal, goal_of, comes}
+use Rattle.sv_states.specs.Change.{with_subscription, named_over, may_follow, subscribed_to, given}
+use Rattle.sv_states.specs.Prepared.{with_subscriptions, subscriptions_of}
 use Rattle.sv_states.specs.Board.{IsReady, seen_as}
 use Rattle.sv_states.specs.declared.board.Board.{Board}
 use Rattle.sv_states.proofs.Ready.{ready-altered, counts_of}
@@ -51,22 +50,25 @@ pub ready_bound : (b : Board) (n : ℕ) (x : Bound) → IsReady b → (new : Boa
 ready_bound b n x r new is =
     subst IsReady (sym is) (ready-altered b (with_bound x) n b.clock r (omega arith) (λ i. refl) (λ i there c. counts_of b.clock b.lives n i r.counted there c))
 
-module _ (b : Board) (p : Subscriber) (id : ℕ) (stores : List Store) (list : List Subscription) (put new : Board) (is : put ≡ record b { lives = altered (with_subscriptions list) b.lives p.inst; stores = stores }) where
+pub ready_placed : (b : Board) (n c : ℕ) (st : Option ℕ) → IsReady b → (new : Board) → new ≡ record b { lives = altered (placed_at c st) b.lives n } → IsReady new
+ready_placed b n c st r new is =
+    subst IsReady (sym is) (ready-altered b (placed_at c st) n b.clock r (omega arith) (λ i. refl) (λ i there d. counts_of b.clock b.lives n i r.counted there d))
+
+module _ (b : Board) (p : Subscriber) (x : Subscription) (stores : List Store) (list : List Subscription) (put : Board) (is : put ≡ record b { lives = altered (with_subscriptions list) b.lives p.inst; stores = stores }) where
   pub ready_subscribed : IsReady b → IsReady put
   ready_subscribed r =
       let a = ready-altered b (with_subscriptions list) p.inst b.clock r (omega arith) (λ i. refl) (λ i there c. counts_of b.clock b.lives p.inst i r.counted there c) in
       subst IsReady (sym is) (record { synced = a.synced; fits = a.fits; counted = a.counted })
 
-  list_over : (o : Option Instance) → list ≡ subscriptions_of o ++ record { cell = p.cell; store = id } ∷ [] → altered_over (with_subscriptions list) o b.lives p.inst ≡ altered_over (with_subscription (record { cell = p.cell; store = id })) o b.lives p.inst
+  list_over : (o : Option Instance) → list ≡ subscriptions_of o ++ x ∷ [] → altered_over (with_subscriptions list) o b.lives p.inst ≡ altered_over (with_subscription x) o b.lives p.inst
   list_over None e = refl
   list_over (Some i) e = ap (λ l. slice_set b.lives p.inst (Some (with_subscriptions l i))) e
 
-  -- the cell is subscribed and has the value
-  pub subscribed-all : (v : Val) → may_subscribe (seen_as b) p id ≡ true → list ≡ subscriptions_of (live (seen_as b) p.inst) ++ record { cell = p.cell; store = id } ∷ [] → value_at b.stores id ≡ Some v → stores ≡ subscribed b.stores id p
-      → seen_as new ≡ given (seen_as put) p v → seen_as new ≡ subscribed_to (seen_as b) p id
-  subscribed-all v may e value told' next =
-      let both : (is_some (live (seen_as b) p.inst) && not (is_subscribed b.stores p)) ≡ true = (and_parts (is_some (live (seen_as b) p.inst) && not (is_subscribed b.stores p)) (is_some (value_at b.stores id)) may).0 in
-      next ∙ ap (λ q. given (seen_as q) p v) is
-      ∙ (λ k. given (record { lives = list_over (at b.lives p.inst) e k; stores = told' k; derived = b.derived; queue = b.queue.order }) p v)
-      ∙ ap (λ o. subscribed_over o (seen_as b) p id) (sym value)
-      ∙ sym (let step : subscribed_to (seen_as b) p id ≡ subscribed_over (value_at b.stores id) (seen_as b) p id = rw both refl in step)
+  -- the name looks where its goal is, and has the value
+  pub subscribed-all : (new : Board) (source : Option ℕ) (g : Goal) (v w : Val) → x ≡ record { cell = p.cell; source = source; store = g.store } → may_follow (seen_as b) p ≡ true → list ≡ subscriptions_of (live (seen_as b) p.inst) ++ x ∷ []
+      → g ≡ goal_of b.stores v → w ≡ g.value → stores ≡ comes g.store p b.stores → seen_as new ≡ given (seen_as put) p w → seen_as new ≡ subscribed_to (seen_as b) p source v
+  subscribed-all new source g v w name may e goal shows came next =
+      next ∙ ap (λ q. given (seen_as q) p w) is
+      ∙ (λ k. given (record { lives = (list_over (at b.lives p.inst) e ∙ ap (λ y. altered (with_subscription y) b.lives p.inst) name) k; stores = came k; derived = b.derived; queue = b.queue.order }) p (shows k))
+      ∙ ap (λ h. named_over source h (seen_as b) p) goal
+      ∙ sym (let step : subscribed_to (seen_as b) p source v ≡ named_over source (goal_of b.stores v) (seen_as b) p = rw may refl in step)

@@ -1,10 +1,10 @@
 -- What else changes the states.
-use Rattle.std.specs.Prelude.{ℕ, suc, not, ◌&&◌, if◌then◌else◌, [], ◌∷◌, ◌++◌, length, Option, Some, None, is_some, slice_set}
+use Rattle.std.specs.Prelude.{ℕ, suc, Bool, not, ◌&&◌, if◌then◌else◌, [], ◌∷◌, ◌++◌, length, Option, Some, None, is_some, slice_set}
 use Rattle.sv_derived.specs.Derived.{Recipe, with_one, frozen}
 use Rattle.sv_numbered.specs.Numbered.{altered}
 use Rattle.sv_value.specs.Value.{Val}
 use Rattle.sv_view.specs.Level.{View}
-use Rattle.sv_store.specs.Stores.{Subscriber, value_at, made, is_subscribed, subscribed, dropped}
+use Rattle.sv_store.specs.Stores.{Subscriber, made, dropped}
 use Rattle.sv_instance.specs.Cells as cells
 use Rattle.sv_instance.specs.Standing.{Place, Standing}
 use Rattle.sv_instance.specs.declared.instance.Instance.{Instance}
@@ -12,6 +12,7 @@ use Rattle.sv_instance.specs.declared.setup.Setup.{Setup}
 use Rattle.sv_instance.specs.declared.subscriptions.Subscription.{Subscription}
 use Rattle.sv_states.specs.States.{States, live, with_instance, depth_of, has_cell}
 use Rattle.sv_states.specs.Waiting.{enqueued, without}
+use Rattle.sv_states.specs.Moving.{Goal, goal_of, comes, name_in}
 use Rattle.sv_states.specs.Assignment.{taken}
 
 -- what is left with an instance changed
@@ -65,11 +66,14 @@ given s p v = if has_cell (live s p.inst) p.cell then taken s p v else declared 
 abbrev pub with_subscription : Subscription → Instance → Instance
 with_subscription x i = record i { subscriptions = i.subscriptions ++ x ∷ [] }
 
-abbrev pub subscribed_over : Option Val → States → Subscriber → ℕ → States
-subscribed_over None s p id = s
-subscribed_over (Some v) s p id =
-    given (record s { lives = altered (with_subscription (record { cell = p.cell; store = id })) s.lives p.inst; stores = subscribed s.stores id p }) p v
+-- the name looks at a store, if at one, and has the value there
+abbrev pub named_over : Option ℕ → Goal → States → Subscriber → States
+named_over source g s p = given (record s { lives = altered (with_subscription (record { cell = p.cell; source = source; store = g.store })) s.lives p.inst; stores = comes g.store p s.stores }) p g.value
 
--- a cell is subscribed to a store, whose value it takes, unless it is subscribed to one
-abbrev pub subscribed_to : States → Subscriber → ℕ → States
-subscribed_to s p id = if is_some (live s p.inst) && not (is_subscribed s.stores p) then subscribed_over (value_at s.stores id) s p id else s
+-- whether a cell can become that of a `$` name
+abbrev pub may_follow : States → Subscriber → Bool
+may_follow s p = is_some (live s p.inst) && not (is_some (name_in (live s p.inst) p.cell))
+
+-- a cell becomes that of the `$` name of a constant or a variable with a value
+abbrev pub subscribed_to : States → Subscriber → Option ℕ → Val → States
+subscribed_to s p source v = if may_follow s p then named_over source (goal_of s.stores v) s p else s

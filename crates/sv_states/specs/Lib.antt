@@ -1,12 +1,16 @@
 pub mod States
 pub mod Waiting
+pub mod Moving
 pub mod Assignment
+pub mod Refusal
 pub mod Change
 pub mod Context
 pub mod Sound
 pub mod Queue
 pub mod Copies
 pub mod Ways
+pub mod Moves
+pub mod Parcels
 pub mod Board
 pub mod Empty
 pub mod Lends

@@ -1,12 +1,14 @@
 -- What holds of the states at every moment, whatever scripts, callbacks and bindings do.
-use Rattle.std.specs.Prelude.{◌≡◌, ℕ, ◌≤◌, Bool, true, false, ◌&&◌, nat_eq, if◌then◌else◌, List, Option, Some, None, is_some}
+use Rattle.std.specs.Prelude.{◌≡◌, ℕ, ◌≤◌, Bool, true, false, ◌&&◌, if◌then◌else◌, List, Option, Some, None, is_some}
 use Rattle.std.specs.List.{list_any}
 use Rattle.sv_view.specs.Cell.{Cell}
 use Rattle.sv_store.specs.Stores.{same_subscriber, subscribers_at}
 use Rattle.sv_instance.specs.Cells as cells
+use Rattle.sv_instance.specs.Subscriptions.{is_cell}
 use Rattle.sv_instance.specs.declared.instance.Instance.{Instance}
 use Rattle.sv_instance.specs.declared.subscriptions.Subscription.{Subscription}
 use Rattle.sv_states.specs.States.{States, live, is_dirty_in}
+use Rattle.sv_states.specs.Moving.{store_in, name_in}
 use Rattle.sv_states.specs.Waiting.{is_waiting, has_shown, times}
 
 -- a cell's count never falls, and where it is the same, the cell is
@@ -29,13 +31,12 @@ abbrev pub has_changed : Option Instance → ℕ → Bool
 has_changed None c = false
 has_changed (Some i) c = is_some i.cells.seen && cells.is_dirty i.cells c
 
-abbrev pub is_to : ℕ → ℕ → Subscription → Bool
-is_to c id x = nat_eq x.cell c && nat_eq x.store id
+abbrev pub looks_at : ℕ → Option Subscription → Bool
+looks_at id name = is_cell (store_in name) id
 
--- whether an instance has a cell subscribed to a store
+-- whether a `$` name of an instance looks at a store
 abbrev pub has_subscription : Option Instance → ℕ → ℕ → Bool
-has_subscription None c id = false
-has_subscription (Some i) c id = list_any (is_to c id) i.subscriptions
+has_subscription o c id = looks_at id (name_in o c)
 
 -- whether a store has a cell among its subscribers
 abbrev pub is_subscriber : States → ℕ → ℕ → ℕ → Bool

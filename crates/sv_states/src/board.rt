@@ -1,5 +1,5 @@
 // The states as they are kept, and the steps of an assignment.
-ghost use Rattle.std.specs.Prelude.{◌≡◌, ◌<◌, ◌≤◌, ◌+◌, ◌^◌, length, map, if◌then◌else◌, IfOk, OnOk, OnErr, Some, None};
+ghost use Rattle.std.specs.Prelude.{◌≡◌, ◌<◌, ◌≤◌, ◌+◌, ◌^◌, length, map, nat_lt, if◌then◌else◌, IfOk, OnOk, OnErr, Some, None};
 ghost use Rattle.sv_value.specs.View.{view_of};
 ghost use Rattle.sv_numbered.specs.Numbered.{at as found};
 ghost use Rattle.sv_store.specs.Stores.{subscribers_at, differs_at};
@@ -50,18 +50,28 @@ impl Board {
     pub(crate) fn copies(&self, alloc: Global, way: &Way, value: Value) -> Result<Copies, NoMemory>
         ensures copies { IfOk result (λ c. c.value ≡ view_of value) }
         ensures enough { IfOk result (λ c. length way.now.cells.items + store_needs self.now.stores way.now.store ≤ c.left) }
-        ensures time { IfOk result (λ c. self.now.clock + c.left < 2 ^ 64) }
+        ensures time { IfOk result (λ c. self.now.clock + c.left + length way.now.cells.items < 2 ^ 64) }
     {
-        let end = self.end_needs(way.store);
-        let Some(count) = end.checked_add(way.cells.len()) else {
+        let cells = way.cells.len();
+        let Some(count) = self.end_needs(way.store).checked_add(cells) else {
             drop(value);
             return Err(NoMemory);
         };
-        if self.clock.checked_add(count as u64).is_none() {
+        if !self.has_time(count, cells) {
             drop(value);
             return Err(NoMemory);
         }
         Copies::of(alloc, value, count)
+    }
+
+    // Whether the clock can tell so many changes, and so many more.
+    fn has_time(&self, count: usize, more: usize) -> bool
+        ensures { result ≡ nat_lt (self.now.clock + count + more) (2 ^ 64) }
+    {
+        match self.clock.checked_add(count as u64) {
+            Some(time) => time.checked_add(more as u64).is_some(),
+            None => false,
+        }
     }
 
     // How many copies a store and its subscribers may need.
@@ -125,6 +135,7 @@ impl Board {
         requires enough { length (subscribers_at self.old.stores id) ≤ copies.old.left }
         requires time { self.old.clock + copies.old.left < 2 ^ 64 }
         ensures states { seen_as self.new ≡ told (subscribers_at self.old.stores id) copies.old.value (seen_as self.old) }
+        ensures clock { self.new.clock + copies.new.left ≤ self.old.clock + copies.old.left }
         ensures ready { IsReady self.new }
     {
         for index in 0..self.stores.subscribers(id).len() {
@@ -139,6 +150,7 @@ impl Board {
         requires enough { length (subscribers_at self.old.stores id) < copies.old.left }
         requires time { self.old.clock + copies.old.left < 2 ^ 64 }
         ensures states { seen_as self.new ≡ store_set (seen_as self.old) id copies.old.value }
+        ensures clock { self.new.clock + copies.new.left ≤ self.old.clock + copies.old.left }
         ensures ready { IsReady self.new }
     {
         if self.stores.set(id, copies.take()) {
@@ -153,6 +165,7 @@ impl Board {
         requires enough { store_needs self.old.stores store ≤ copies.old.left }
         requires time { self.old.clock + copies.old.left < 2 ^ 64 }
         ensures states { seen_as self.new ≡ end_set store copies.old.value (seen_as self.old) }
+        ensures clock { self.new.clock + copies.new.left ≤ self.old.clock + copies.old.left }
         ensures ready { IsReady self.new }
     {
         if let Some(id) = store {
@@ -167,6 +180,7 @@ impl Board {
         requires enough { length cells.now + store_needs self.old.stores store ≤ copies.old.left }
         requires time { self.old.clock + copies.old.left < 2 ^ 64 }
         ensures states { seen_as self.new ≡ written (map subscriber_of cells.now) store copies.old.value (seen_as self.old) }
+        ensures clock { self.new.clock + copies.new.left ≤ self.old.clock + copies.old.left }
         ensures ready { IsReady self.new }
     {
         match cells {

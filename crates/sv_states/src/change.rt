@@ -1,123 +1,33 @@
 // What else changes the states.
-ghost use Rattle.std.specs.Prelude.{◌≡◌, ◌+◌, ◌<◌, ◌^◌, ℕ, length, IfOk, OnOk, OnErr, option_map, option_copied, if◌then◌else◌};
+ghost use Rattle.std.specs.Prelude.{◌≡◌, ◌+◌, ◌<◌, ◌^◌, ℕ, false, length, IfOk, OnOk, OnErr, option_map, option_copied, if◌then◌else◌};
 ghost use Rattle.sv_value.specs.View.{view_of};
 ghost use Rattle.sv_numbered.specs.Numbered.{altered, at as found};
 ghost use Rattle.sv_store.specs.Kept.{subscriber_of};
+ghost use Rattle.sv_store.specs.Stores.{is_subscribed};
 ghost use Rattle.sv_instance.specs.Place.{inst_number};
-ghost use Rattle.sv_instance.specs.Binds.{bound_of};
 ghost use Rattle.sv_instance.specs.Dirty.{is_among};
-ghost use Rattle.sv_states.specs.States.{with_instance, value_in, cell_in, has_cell, cell_count, is_dirty_in};
+ghost use Rattle.sv_states.specs.States.{with_instance, cell_in, has_cell, cell_count, is_dirty_in};
 ghost use Rattle.sv_states.specs.Waiting.{snapped};
-ghost use Rattle.sv_states.specs.Assignment.{sent, handed_down, is_bound_to_fixed, bound_up, with_bound};
+ghost use Rattle.sv_states.specs.Moving.{comes};
 ghost use Rattle.sv_states.specs.Change.{depth_above, added, removed, declared, with_view, viewed, given, subscribed_to};
 ghost use Rattle.sv_states.specs.Prepared.{IsPrepared, with_subscriptions, IsNew};
-ghost use Rattle.sv_states.specs.Ways.{way_seen};
 ghost use Rattle.sv_states.specs.Board.{seen_as, IsReady, IsKept};
 
 use crate::board::Board;
-use crate::way::Way;
-use std::alloc::Global;
+use crate::moves::{store_of, value_of};
 use sv_base::NoMemory;
-use sv_instance::{Bound, Dirty, Instance, Subscription, Subscriptions};
+use sv_instance::{Dirty, Instance, Subscription, Subscriptions};
 use sv_store::Sub;
 use sv_value::{Inst, Value};
 use sv_view::{Cell, View};
 
 impl Board {
-    // A value goes its way.
-    pub(crate) fn send(&mut self, alloc: Global, way: &Way, value: Value) -> Result<(), NoMemory>
-        requires { IsReady self.old }
-        ensures ok { OnOk result (seen_as self.new ≡ sent (way_seen way.now) (view_of value) (seen_as self.old)) }
-        ensures ready { OnOk result (IsReady self.new) }
-        ensures err { OnErr result (self.new ≡ self.old) }
-    {
-        let mut copies = self.copies(alloc, way, value)?;
-        self.write(&way.cells, way.store, &mut copies);
-        Ok(())
-    }
-
-    // A prop takes what its owner hands down.
-    pub(crate) fn hand_down(&mut self, at: Sub, value: Value) -> Result<(), NoMemory>
-        requires { IsReady self.old }
-        ensures ok { OnOk result (seen_as self.new ≡ handed_down (seen_as self.old) (subscriber_of at) (view_of value)) }
-        ensures ready { OnOk result (IsReady self.new) }
-        ensures err { OnErr result (self.new ≡ self.old) }
-    {
-        if self.clock == u64::MAX {
-            drop(value);
-            return Err(NoMemory);
-        }
-        self.take(at, value);
-        Ok(())
-    }
-
-    // Whether a derived store would be set if a prop were bound.
-    pub(crate) fn is_bound_to_fixed(&self, inst: Inst, bound: Bound) -> bool
-        ensures { result ≡ is_bound_to_fixed (seen_as self.now) inst.number (bound_of bound) }
-    {
-        let variable = Sub {
-            inst: bound.owner,
-            cell: bound.target,
-        };
-        self.cell(inst, bound.cell).is_some() && self.is_read_only(variable)
-    }
-
-    // A prop is bound, and its value goes the way of the owner's variable.
-    pub(crate) fn bind_up(
-        &mut self,
-        alloc: Global,
-        inst: Inst,
-        bound: Bound,
-    ) -> Result<(), NoMemory>
-        requires { IsReady self.old }
-        ensures ok { OnOk result (seen_as self.new ≡ bound_up (seen_as self.old) inst.number (bound_of bound)) }
-        ensures ready { OnOk result (IsReady self.new) }
-        ensures err { OnErr result (self.new ≡ self.old) }
-    {
-        let variable = Sub {
-            inst: bound.owner,
-            cell: bound.target,
-        };
-        let way = self.way(alloc, variable)?;
-        match self.value(inst, bound.cell)? {
-            Some(value) => {
-                let mut copies = self.copies(alloc, &way, value)?;
-                self.bind(inst, bound)?;
-                self.write(&way.cells, way.store, &mut copies);
-                Ok(())
-            }
-            None => self.bind(inst, bound),
-        }
-    }
-
-    // The value of a cell, where its declaration ran.
-    fn value(&self, inst: Inst, cell: u8) -> Result<Option<Value>, NoMemory>
-        ensures { IfOk result (λ value. option_map view_of value ≡ value_in (found self.now.lives inst.number) cell) }
-    {
-        match self.cell(inst, cell) {
-            Some(cell) => Ok(Some(cell.value.share()?)),
-            None => Ok(None),
-        }
-    }
-
-    fn cell(&self, inst: Inst, cell: u8) -> Option<&Cell>
+    // A cell, where its declaration ran.
+    pub(crate) fn cell(&self, inst: Inst, cell: u8) -> Option<&Cell>
         ensures { option_copied result ≡ cell_in (found self.now.lives inst.number) cell }
     {
         let instance = self.lives.get(inst)?;
         instance.cells.get(cell)
-    }
-
-    fn bind(&mut self, inst: Inst, bound: Bound) -> Result<(), NoMemory>
-        ensures ok { OnOk result (self.new ≡ record self.old { lives = altered (with_bound (bound_of bound)) self.old.lives inst.number }) }
-        ensures err { OnErr result (self.new ≡ self.old) }
-    {
-        match self.lives.get_mut(inst) {
-            Some(instance) => {
-                let setup = &mut instance.setup;
-                setup.bounds.add(bound)
-            }
-            None => Ok(()),
-        }
     }
 
     // How deep a parent is, the root being 1; 0 where there is none.
@@ -231,43 +141,59 @@ impl Board {
         dirty
     }
 
-    // Subscribes a cell to a store, and gives it the value.
-    pub(crate) fn subscribe(&mut self, at: Sub, store: u32) -> Result<(), NoMemory>
-        requires { IsReady self.old }
-        ensures ok { OnOk result (seen_as self.new ≡ subscribed_to (seen_as self.old) (subscriber_of at) store) }
+    // A cell becomes that of the `$` name of a constant or a variable with a value.
+    pub(crate) fn subscribe(
+        &mut self,
+        at: Sub,
+        source: Option<u8>,
+        value: &Value,
+    ) -> Result<(), NoMemory>
+        requires { IsKept self.old }
+        ensures ok { OnOk result (seen_as self.new ≡ subscribed_to (seen_as self.old) (subscriber_of at) source (view_of value.now)) }
         ensures ready { OnOk result (IsReady self.new) }
         ensures err { OnErr result (self.new ≡ self.old) }
     {
         if self.clock == u64::MAX {
             return Err(NoMemory);
         }
-        if let Some((subscriptions, value)) = self.prepare(at, store)? {
-            self.stores.subscribe(store, at)?;
+        let goal = self.goal(None, value)?;
+        let name = Subscription {
+            cell: at.cell,
+            source,
+            store: store_of(&goal),
+        };
+        if let Some(subscriptions) = self.prepare(at.inst, name)? {
+            self.enter(name.store, at)?;
             self.put_subscriptions(at.inst, subscriptions);
-            self.give(at, value);
+            self.give(at, value_of(goal));
         }
         Ok(())
     }
 
-    // The subscriptions of the instance with the new one, and the store's value, where the cell can be subscribed.
-    fn prepare(&self, at: Sub, store: u32) -> Result<Option<(Subscriptions, Value)>, NoMemory>
-        ensures { IfOk result (IsPrepared (seen_as self.now) (subscriber_of at) store) }
+    // The `$` names of the instance with a new one, where its cell can become one's.
+    fn prepare(&self, inst: Inst, name: Subscription) -> Result<Option<Subscriptions>, NoMemory>
+        ensures { IfOk result (IsPrepared (seen_as self.now) inst.number name) }
     {
-        if self.stores.is_subscribed(at) {
+        let Some(instance) = self.lives.get(inst) else {
+            return Ok(None);
+        };
+        let subscriptions = &instance.subscriptions;
+        if subscriptions.find(name.cell).is_some() {
             return Ok(None);
         }
-        let Some(instance) = self.lives.get(at.inst) else {
-            return Ok(None);
-        };
-        let Some(value) = self.stores.value(store) else {
-            return Ok(None);
-        };
-        let subscriptions = instance.subscriptions.with(Subscription {
-            cell: at.cell,
-            store,
-        })?;
-        let value = value.share()?;
-        Ok(Some((subscriptions, value)))
+        Ok(Some(subscriptions.with(name)?))
+    }
+
+    // A cell comes to a store, if to one, behind its other subscribers.
+    fn enter(&mut self, store: Option<u32>, at: Sub) -> Result<(), NoMemory>
+        requires { is_subscribed self.old.stores (subscriber_of at) ≡ false }
+        ensures ok { OnOk result (self.new ≡ record self.old { stores = comes store (subscriber_of at) self.old.stores }) }
+        ensures err { OnErr result (self.new ≡ self.old) }
+    {
+        match store {
+            Some(id) => self.stores.subscribe(id, at),
+            None => Ok(()),
+        }
     }
 
     fn put_subscriptions(&mut self, inst: Inst, subscriptions: Subscriptions)

@@ -54,10 +54,7 @@ impl Board {
         ensures ready { OnOk result (IsReady self.new) }
         ensures err { OnErr result (self.new ≡ self.old) }
     {
-        let way = Way {
-            cells: Vec::new(alloc),
-            store: Some(id),
-        };
+        let way = Way::to_store(alloc, id);
         let mut copies = self.copies(alloc, &way, value)?;
         self.derived.done(id);
         self.write(&way.cells, way.store, &mut copies);

@@ -30,6 +30,10 @@ pub enum AssignError {
     /// A derived store would be set.
     #[error("a derived store is not set")]
     ReadOnly,
+    /// A `$` name would be assigned whose name holds no store, or a variable with a `$` name would take a value that is neither a store nor
+    /// `null` nor `undefined`.
+    #[error("not a store")]
+    NotAStore,
     /// There was no memory for it.
     #[error("out of memory")]
     NoMemory,

@@ -11,9 +11,10 @@ ghost use Rattle.sv_instance.specs.Place.{inst_number, standing_of};
 ghost use Rattle.sv_instance.specs.Instance.{born};
 ghost use Rattle.sv_instance.specs.Binds.{bound_of};
 ghost use Rattle.sv_instance.specs.Dirty.{is_among};
-ghost use Rattle.sv_states.specs.States.{live, setup_of, cell_count, is_dirty_in, is_derived};
+ghost use Rattle.sv_states.specs.States.{live, setup_of, cell_count, is_dirty_in};
 ghost use Rattle.sv_states.specs.Waiting.{snapped};
-ghost use Rattle.sv_states.specs.Assignment.{assigned, is_read_only, handed_down, store_set, computed, bound_up, is_bound_to_fixed};
+ghost use Rattle.sv_states.specs.Assignment.{assigned, handed_down, store_set, computed, bound_up};
+ghost use Rattle.sv_states.specs.Refusal.{assign_refusal, hand_refusal, store_refusal, bind_refusal, IsAnswer};
 ghost use Rattle.sv_states.specs.Change.{depth_above, place_below, added, removed, declared, viewed, with_store, with_derived, subscribed_to};
 ghost use Rattle.sv_states.specs.Context.{context_of};
 ghost use Rattle.sv_states.specs.Sound.{IsSound};
@@ -22,12 +23,11 @@ ghost use Rattle.sv_states.specs.Empty.{no_states};
 use crate::board::Board;
 use crate::error::{AddError, AssignError};
 use crate::queue::Queue;
-use crate::way::Way;
 use std::alloc::Global;
 use std::marker::Model;
 use sv_base::NoMemory;
 use sv_derived::{Derived, Graph, Recipe};
-use sv_instance::{Bound, Dirty, Instance, Place, Setup, Standing, Subscription};
+use sv_instance::{Bound, Dirty, Instance, Place, Setup, Standing};
 use sv_numbered::Numbered;
 use sv_store::{Stores, Sub};
 use sv_value::{Inst, Key, Value};
@@ -89,7 +89,7 @@ impl States {
         ensures made { AreBelow (ids self.now.derived) (length self.now.stores) }
     {
         let board = &self.board;
-        let _count = board.stores.subscriptions();
+        let _stores = board.stores.len();
         let _derived = board.derived.len();
     }
 
@@ -121,9 +121,9 @@ impl States {
         board.lives.len() as u64
     }
 
-    /// How many subscriptions there are.
-    pub fn subscriptions(&self) -> u64
-        ensures { result ≡ subscription_count self.now.stores }
+    /// How many subscriptions there are; `NoMemory` where no memory could hold so many.
+    pub fn subscriptions(&self) -> Result<u64, NoMemory>
+        ensures { IfOk result (λ count. count ≡ subscription_count self.now.stores) }
     {
         let board = &self.board;
         board.stores.subscriptions()
@@ -220,64 +220,65 @@ impl States {
         board.declare(at, value);
     }
 
-    /// Assigns a cell. The store whose value it has is set in its place; else the value is stored where that counts as a
-    /// change, then handed up to the variable that the cell is bound to, and then the instance is queued. `ReadOnly` exactly
-    /// where a derived store would be set.
+    /// Assigns a cell. Where it is a `$` name's, the store that this looks at is set in its place. Else the value is stored where that counts
+    /// as a change, then handed up to the variable that the cell is bound to, and then the instance is queued; and where the cell has a `$`
+    /// name, that looks at the new value's store from now on. What speaks against it is told, and nothing changes then.
     pub fn assign(&mut self, at: Sub, value: Value) -> Result<(), AssignError>
         ensures ok { OnOk result (self.new ≡ assigned self.old at.inst.number at.cell (view_of value)) }
-        ensures read_only { (result ≡ Err AssignError.ReadOnly) ↔ (is_read_only self.old at.inst.number at.cell ≡ true) }
+        ensures answer { IsAnswer (assign_refusal self.old at.inst.number at.cell (view_of value)) result }
         ensures err { OnErr result (self.new ≡ self.old) }
     {
         let board = &mut self.board;
-        if board.is_read_only(at) {
+        if let Some(refusal) = board.assign_refusal(at, &value) {
             drop(value);
-            return Err(AssignError::ReadOnly);
+            return Err(refusal);
         }
-        let way = board.way(self.alloc, at)?;
-        board.send(self.alloc, &way, value)?;
+        board.assign(self.alloc, at, value)?;
         Ok(())
     }
 
-    /// A prop takes the value that its owner hands down, where that counts as a change, and its instance is queued; nothing is
-    /// handed up.
-    pub fn hand_down(&mut self, at: Sub, value: Value) -> Result<(), NoMemory>
+    /// A prop takes the value that its owner hands down, where that counts as a change, and its instance is queued; nothing is handed up.
+    /// What speaks against it is told, and nothing changes then.
+    pub fn hand_down(&mut self, at: Sub, value: Value) -> Result<(), AssignError>
         ensures ok { OnOk result (self.new ≡ handed_down self.old (subscriber_of at) (view_of value)) }
+        ensures answer { IsAnswer (hand_refusal self.old (subscriber_of at) (view_of value)) result }
         ensures err { OnErr result (self.new ≡ self.old) }
     {
         let board = &mut self.board;
-        board.hand_down(at, value)
+        if let Some(refusal) = board.hand_refusal(at, &value) {
+            drop(value);
+            return Err(refusal);
+        }
+        board.hand_down(self.alloc, at, value)?;
+        Ok(())
     }
 
     /// Sets a store, where that counts as a change: what is derived of it is pending, and the cells of its subscribers are
-    /// assigned in order. `ReadOnly` exactly where it is a derived one.
+    /// assigned in order. `ReadOnly` exactly where it is a derived one; nothing changes then.
     pub fn set_store(&mut self, id: u32, value: Value) -> Result<(), AssignError>
         ensures ok { OnOk result (self.new ≡ store_set self.old id (view_of value)) }
-        ensures read_only { (result ≡ Err AssignError.ReadOnly) ↔ (is_derived self.old id ≡ true) }
+        ensures answer { IsAnswer (store_refusal self.old id) result }
         ensures err { OnErr result (self.new ≡ self.old) }
     {
         let board = &mut self.board;
-        if board.derived.get(id).is_some() {
+        if let Some(refusal) = board.store_refusal(id) {
             drop(value);
-            return Err(AssignError::ReadOnly);
+            return Err(refusal);
         }
-        let way = Way {
-            cells: Vec::new(self.alloc),
-            store: Some(id),
-        };
-        board.send(self.alloc, &way, value)?;
+        board.assign_store(self.alloc, id, value)?;
         Ok(())
     }
 
-    /// Binds a prop of an instance to a variable of its owner, which is assigned the prop's value. `ReadOnly` exactly where a
-    /// derived store would be set.
+    /// Binds a prop of an instance to a variable of its owner, which is assigned the prop's value. What speaks against it is told, and
+    /// nothing changes then.
     pub fn bind_up(&mut self, inst: Inst, bound: Bound) -> Result<(), AssignError>
         ensures ok { OnOk result (self.new ≡ bound_up self.old inst.number (bound_of bound)) }
-        ensures read_only { (result ≡ Err AssignError.ReadOnly) ↔ (is_bound_to_fixed self.old inst.number (bound_of bound) ≡ true) }
+        ensures answer { IsAnswer (bind_refusal self.old inst.number (bound_of bound)) result }
         ensures err { OnErr result (self.new ≡ self.old) }
     {
         let board = &mut self.board;
-        if board.is_bound_to_fixed(inst, bound) {
-            return Err(AssignError::ReadOnly);
+        if let Some(refusal) = board.bind_refusal(inst, bound) {
+            return Err(refusal);
         }
         board.bind_up(self.alloc, inst, bound)?;
         Ok(())
@@ -340,13 +341,14 @@ impl States {
         board.settle_one(self.alloc, id, value)
     }
 
-    /// Subscribes a cell to a store, whose value it takes. Where the instance isn't live, the store was never made or the cell
-    /// is subscribed to a store, nothing changes.
-    pub fn subscribe(&mut self, at: Sub, store: u32) -> Result<(), NoMemory>
-        ensures ok { OnOk result (self.new ≡ subscribed_to self.old (subscriber_of at) store) }
+    /// Makes a cell that of the `$` name of a constant, or of the variable in `source`, which has a value: the cell is subscribed to the store
+    /// that the value is, behind the other subscribers, and takes its value; where the value is no store it is `undefined`. Where the
+    /// instance isn't live, or the cell is that of a `$` name already, nothing changes.
+    pub fn subscribe(&mut self, at: Sub, source: Option<u8>, value: &Value) -> Result<(), NoMemory>
+        ensures ok { OnOk result (self.new ≡ subscribed_to self.old (subscriber_of at) source (view_of value.now)) }
         ensures err { OnErr result (self.new ≡ self.old) }
     {
         let board = &mut self.board;
-        board.subscribe(at, store)
+        board.subscribe(at, source, value)
     }
 }

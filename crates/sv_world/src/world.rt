@@ -1,13 +1,14 @@
 // The world.
-ghost use Rattle.std.specs.Prelude.{◌≡◌, ◌≤◌, ◌<◌, ◌↔◌, ℕ, true, length, Err, IfOk, OnOk, OnErr, IsTrue, is_some, count_by, slice_get, option_map, option_copied};
+ghost use Rattle.std.specs.Prelude.{◌≡◌, ◌≤◌, ◌<◌, ◌↔◌, ℕ, length, Err, IfOk, OnOk, OnErr, IsTrue, is_some, count_by, slice_get, option_map, option_copied};
 ghost use Rattle.sv_value.specs.View.{view_of};
 ghost use Rattle.sv_store.specs.Stores.{subscription_count};
 ghost use Rattle.sv_instance.specs.Place.{inst_number, standing_of};
 ghost use Rattle.sv_instance.specs.Instance.{born};
 ghost use Rattle.sv_instance.specs.Dirty.{is_among};
-ghost use Rattle.sv_states.specs.States.{live, cell_in, cell_count, is_dirty_in, is_derived};
+ghost use Rattle.sv_states.specs.States.{live, cell_in, cell_count, is_dirty_in};
 ghost use Rattle.sv_states.specs.Waiting.{snapped};
-ghost use Rattle.sv_states.specs.Assignment.{assigned, is_read_only, store_set, bound_up, is_bound_to_fixed};
+ghost use Rattle.sv_states.specs.Assignment.{assigned, store_set, bound_up};
+ghost use Rattle.sv_states.specs.Refusal.{assign_refusal, store_refusal, bind_refusal, IsAnswer};
 ghost use Rattle.sv_states.specs.Change.{depth_above, place_below, added, removed};
 ghost use Rattle.sv_world.specs.World.{no_world, view_before, presented_before, presented, constants_in, constants_view};
 
@@ -99,19 +100,19 @@ impl World {
         self.states.instances()
     }
 
-    /// How many subscriptions there are.
-    pub fn subscriptions(&self) -> u64
-        ensures { result ≡ subscription_count self.now.states.stores }
+    /// How many subscriptions there are; `NoMemory` where no memory could hold so many.
+    pub fn subscriptions(&self) -> Result<u64, NoMemory>
+        ensures { IfOk result (λ count. count ≡ subscription_count self.now.states.stores) }
     {
         self.states.subscriptions()
     }
 
-    /// Assigns a cell: the value is stored where that counts as a change, handed up to the variable that the cell is bound to,
-    /// and the instance is queued. The store whose value the cell has is set in its place. `ReadOnly` exactly where a derived
-    /// store would be set.
+    /// Assigns a cell: the value is stored where that counts as a change, handed up to the variable that the cell is bound to, and the
+    /// instance is queued; and where the cell has a `$` name, that looks at the new value's store from now on. Where the cell is a `$` name's,
+    /// the store that this looks at is set in its place. What speaks against it is told, and nothing changes then.
     pub fn assign(&mut self, inst: Inst, cell: u8, value: Value) -> Result<(), AssignError>
         ensures ok { OnOk result (self.new ≡ record self.old { states = assigned self.old.states inst.number cell (view_of value) }) }
-        ensures read_only { (result ≡ Err AssignError.ReadOnly) ↔ (is_read_only self.old.states inst.number cell ≡ true) }
+        ensures answer { IsAnswer (assign_refusal self.old.states inst.number cell (view_of value)) result }
         ensures err { OnErr result (self.new ≡ self.old) }
     {
         self.states.assign(Sub { inst, cell }, value)
@@ -121,14 +122,14 @@ impl World {
     /// assigned in order. `ReadOnly` exactly where it is a derived one.
     pub fn set_store(&mut self, id: u32, value: Value) -> Result<(), AssignError>
         ensures ok { OnOk result (self.new ≡ record self.old { states = store_set self.old.states id (view_of value) }) }
-        ensures read_only { (result ≡ Err AssignError.ReadOnly) ↔ (is_derived self.old.states id ≡ true) }
+        ensures answer { IsAnswer (store_refusal self.old.states id) result }
         ensures err { OnErr result (self.new ≡ self.old) }
     {
         self.states.set_store(id, value)
     }
 
-    /// Runs a binding callback: binds a prop to a variable of the owner, which is assigned the prop's value. `ReadOnly` exactly
-    /// where a derived store would be set.
+    /// Runs a binding callback: binds a prop to a variable of the owner, which is assigned the prop's value. What speaks against it is told,
+    /// and nothing changes then.
     pub fn bind_up(
         &mut self,
         child: Inst,
@@ -137,7 +138,7 @@ impl World {
         target: u8,
     ) -> Result<(), AssignError>
         ensures ok { OnOk result (self.new ≡ record self.old { states = bound_up self.old.states child.number (record { cell = cell; owner = owner.number; target = target }) }) }
-        ensures read_only { (result ≡ Err AssignError.ReadOnly) ↔ (is_bound_to_fixed self.old.states child.number (record { cell = cell; owner = owner.number; target = target }) ≡ true) }
+        ensures answer { IsAnswer (bind_refusal self.old.states child.number (record { cell = cell; owner = owner.number; target = target })) result }
         ensures err { OnErr result (self.new ≡ self.old) }
     {
         self.states.bind_up(

@@ -29,5 +29,6 @@ loop-index-preserved c =
       value = ap (λ k. k.value) c.take.ensures.left ∙ inv.value;
       left = omega (arith, fewer, left, enough, all, some, test);
       time = omega (arith, fewer, left, enough, all, some, test, time, clock);
+      clock = let before = inv.clock in omega (arith, fewer, left, enough, all, some, test, clock, before);
       told = tell_more c.args.self.now.stores c.loop-index.self.stores c.args.id c.loop-index.index xs _ c.args.copies.now.value _ (seen_as c.loop-index.self) (seen_as c.take-in-loop-index.new.self) _ c.subscribers.ensures inv.stores inside same t.states inv.told;
     }

@@ -1,12 +1,13 @@
+use Rattle.std.proofs.Common.{ap, ◌∙◌}
 use Rattle.sv_value.specs.View.{view_of}
-use Rattle.sv_states.specs.Assignment.{sent}
-use Rattle.sv_states.specs.Ways.{way_seen}
-use Rattle.sv_states.specs.Board.{seen_as}
-use Rattle.sv_states.proofs.Keeping.{kept-result}
-use Rattle.sv_states.proofs.Making.{tally-sent}
-use Rattle.sv_states.proofs.Sounding.{sound-sent}
+use Rattle.sv_states.specs.Refusal.{assign_refusal}
+use Rattle.sv_states.specs.States.{live, depth_of}
+use Rattle.sv_states.proofs.Refusing.{answer_of, refusal_is}
 use Rattle.sv_states.proofs.states.States.assign.Goals as goal
 
-pub invariant_of-self-2 : goal.invariant_of-self-2
-invariant_of-self-2 c = kept-result c.send.result c.self.inside.board c.send.new.self (sent (way_seen c.in_ok-way.way) (view_of c.args.value) (seen_as c.self.inside.board)) c.self.invariant c.send.ensures.ok c.send.ensures.ready c.send.ensures.err (sound-sent (seen_as c.self.inside.board) (way_seen c.in_ok-way.way) (view_of c.args.value) c.self.invariant.sound)
-    (tally-sent (seen_as c.self.inside.board) (way_seen c.in_ok-way.way) (view_of c.args.value))
+pub returns-in-Some-clause-answer : goal.returns-in-Some-clause-answer
+returns-in-Some-clause-answer c =
+    let s = c.args.self.now in
+    let n = c.args.at.inst.number in
+    let v = view_of c.args.value in
+    answer_of (Unit {0}) c.in-Some.refusal (assign_refusal s n c.args.at.cell v) (c.in-Some.ensures ∙ ap (λ t. assign_refusal t n c.args.at.cell v) c.self.view_is) (refusal_is (depth_of (live s n)) s v n c.args.at.cell)

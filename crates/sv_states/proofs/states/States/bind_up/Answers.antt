@@ -1,11 +1,13 @@
+use Rattle.std.proofs.Common.{ap, ◌∙◌}
 use Rattle.sv_instance.specs.Binds.{bound_of}
-use Rattle.sv_states.specs.Assignment.{bound_up}
-use Rattle.sv_states.specs.Board.{seen_as}
-use Rattle.sv_states.proofs.Keeping.{kept-result}
-use Rattle.sv_states.proofs.Making.{tally-bound}
-use Rattle.sv_states.proofs.Sounding.{sound-bound}
+use Rattle.sv_states.specs.Refusal.{bind_refusal}
+use Rattle.sv_states.specs.States.{live, value_in}
+use Rattle.sv_states.proofs.Refusing.{answer_of, sent_is}
 use Rattle.sv_states.proofs.states.States.bind_up.Goals as goal
 
-pub invariant_of-self-2 : goal.invariant_of-self-2
-invariant_of-self-2 c = kept-result c.bind_up.result c.self.inside.board c.bind_up.new.self (bound_up (seen_as c.self.inside.board) c.args.inst.number (bound_of c.args.bound)) c.self.invariant c.bind_up.ensures.ok c.bind_up.ensures.ready c.bind_up.ensures.err (sound-bound (seen_as c.self.inside.board) c.args.inst.number (bound_of c.args.bound) c.self.invariant.sound)
-    (tally-bound (seen_as c.self.inside.board) c.args.inst.number (bound_of c.args.bound))
+pub returns-in-Some-clause-answer : goal.returns-in-Some-clause-answer
+returns-in-Some-clause-answer c =
+    let s = c.args.self.now in
+    let n = c.args.inst.number in
+    let b = bound_of c.args.bound in
+    answer_of (Unit {0}) c.in-Some.refusal (bind_refusal s n b) (c.in-Some.ensures ∙ ap (λ t. bind_refusal t n b) c.self.view_is) (sent_is (value_in (live s n) b.cell) s b.owner b.target)
