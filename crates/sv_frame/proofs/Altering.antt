@@ -1,22 +1,24 @@
 -- What scripts do to the states leaves pictures of instances as they are that show nothing of what scripts change: snapshots, and views that were lent.
-use Rattle.std.proofs.Common.{◌≡◌, ℕ, Bool, true, false, List, [], ◌∷◌, map, Option, Some, None, option_map, refl, sym, ap, ◌∙◌, is_some, if◌then◌else◌}
-use Rattle.std.specs.Prelude.{not, ◌&&◌, slice_set}
+use Rattle.std.proofs.Common.{◌≡◌, ℕ, Bool, true, false, List, [], ◌∷◌, ◌++◌, map, Option, Some, None, option_map, refl, sym, ap, ◌∙◌, if◌then◌else◌}
+use Rattle.std.specs.Prelude.{slice_set}
 use Rattle.std.proofs.Math.Seq.{map-set_same}
 use Rattle.std.proofs.lemmas.List.{length-set}
 use Rattle.sv_derived.specs.Derived.{marked, done}
 use Rattle.sv_frame.proofs.Outcomes.{Stays}
 use Rattle.sv_frame.specs.Snapshots.{Snapshot, snapshot_of, snapshots}
 use Rattle.sv_frame.specs.Views.{lent_views}
+use Rattle.sv_instance.specs.Subscriptions.{moved_to}
 use Rattle.sv_instance.specs.declared.instance.Instance.{Instance}
 use Rattle.sv_instance.specs.declared.setup.Setup.{Setup}
 use Rattle.sv_instance.specs.declared.subscriptions.Subscription.{Subscription}
 use Rattle.sv_numbered.specs.Numbered.{at, altered, altered_over}
-use Rattle.sv_states.specs.Assignment.{Way, changes_in, cell_stored, handing, taken, told, store_set, computed, end_set, written, sent_if, assigned, way_of, handed_down, with_bound, bound_up}
-use Rattle.sv_states.specs.Change.{declared, with_view, viewed, given, with_subscription, subscribed_over, subscribed_to}
+use Rattle.sv_states.specs.Assignment.{Way, changes_in, cell_stored, handing, taken, told, store_set, computed, end_set, written, placed_at, looked, moved_if, all_followed, sent, assigned, way_of, way_into, handed_down, with_bound, bound_over, bound_up}
+use Rattle.sv_states.specs.Change.{declared, with_view, viewed, given, with_subscription, named_over, may_follow, subscribed_to}
+use Rattle.sv_states.specs.Moving.{Goal, goal_of, stores_after, follower_in}
 use Rattle.sv_states.specs.States.{States, live, with_instance, has_cell, value_in}
 use Rattle.sv_states.specs.Waiting.{joins, queued, enqueued}
 use Rattle.sv_instance.specs.Bound.{Bound}
-use Rattle.sv_store.specs.Stores.{Subscriber, with_value, subscribers_at, differs_at, value_at, is_subscribed}
+use Rattle.sv_store.specs.Stores.{Subscriber, with_value, subscribers_at, differs_at}
 use Rattle.sv_value.specs.Value.{Val}
 use Rattle.sv_view.specs.Cell.{Cell}
 use Rattle.sv_view.specs.Level.{View}
@@ -29,7 +31,7 @@ if_same f false x y z h k = k
 pub record Plain {X : Type 0} (g : Instance → X) : Type 0 where
   pub setup : (i : Instance) (u : Setup) → g (record i { setup = u }) ≡ g i
   pub waits : (i : Instance) → g (queued i) ≡ g i
-  pub subscribed : (i : Instance) (x : Subscription) → g (with_subscription x i) ≡ g i
+  pub subscribed : (i : Instance) (names : List Subscription) → g (record i { subscriptions = names }) ≡ g i
   pub written : (i : Instance) (c : ℕ) (x : Option Cell) → g (record i { cells = record i.cells { now = slice_set i.cells.now c x } }) ≡ g i
 
 module _ {X : Type 0} (g : Instance → X) where
@@ -82,16 +84,33 @@ module _ {X : Type 0} {g : Instance → X} (plain : Plain g) where
   written_same [] store v s = end_same store v s
   written_same (p ∷ ps) store v s = handing_same p v (written ps store v) s (written_same ps store v)
 
-  assigned_same : (s : States) (n c : ℕ) (v : Val) → seen (assigned s n c v) ≡ seen s
-  assigned_same s n c v = written_same (way_of s n c).cells (way_of s n c).store v s
+  looked_same : (p : Subscriber) (id : Option ℕ) (v : Val) (s : States) → seen (looked p id v s) ≡ seen s
+  looked_same p id v s = taken_same (with_instance (placed_at p.cell id) s p.inst) p v ∙ pictures-altered g (placed_at p.cell id) s.lives p.inst (λ i. plain.subscribed i (moved_to i.subscriptions p.cell id))
 
-  sent_if_same : (o : Option Val) (w : Way) (s : States) → seen (sent_if o w s) ≡ seen s
-  sent_if_same None w s = refl
-  sent_if_same (Some v) w s = written_same w.cells w.store v s
+  moved_if_same : (o : Option ℕ) (n : ℕ) (goal : Goal) (s : States) → seen (moved_if o n goal s) ≡ seen s
+  moved_if_same None n goal s = refl
+  moved_if_same (Some c) n goal s = looked_same (record { inst = n; cell = c }) goal.store goal.value _
+
+  followed_same : (ps : List Subscriber) (goal : Goal) (s : States) → seen (all_followed ps goal s) ≡ seen s
+  followed_same [] goal s = refl
+  followed_same (p ∷ ps) goal s = moved_if_same (follower_in (live (all_followed ps goal s) p.inst) p.cell) p.inst goal (all_followed ps goal s) ∙ followed_same ps goal s
+
+  sent_same : (w : Way) (v : Val) (s : States) → seen (sent w v s) ≡ seen s
+  sent_same w v s = followed_same w.cells (goal_of (stores_after w.store v s.stores) v) (written w.cells w.store v s) ∙ written_same w.cells w.store v s
+
+  assigned_same : (s : States) (n c : ℕ) (v : Val) → seen (assigned s n c v) ≡ seen s
+  assigned_same s n c v = sent_same (way_of s n c v) v s
+
+  pub pictures-handed : (s : States) (p : Subscriber) (v : Val) → seen (handed_down s p v) ≡ seen s
+  pictures-handed s p v = sent_same (way_into s p v) v s
+
+  bound_over_same : (o : Option Val) (b : Bound) (old s : States) → seen (bound_over o b old s) ≡ seen s
+  bound_over_same None b old s = refl
+  bound_over_same (Some v) b old s = sent_same (way_of old b.owner b.target v) v s
 
   pub pictures-bound : (s : States) (n : ℕ) (b : Bound) → seen (bound_up s n b) ≡ seen s
   pictures-bound s n b =
-      sent_if_same (value_in (live s n) b.cell) (way_of s b.owner b.target) (with_instance (with_bound b) s n)
+      bound_over_same (value_in (live s n) b.cell) b s (with_instance (with_bound b) s n)
       ∙ pictures-altered g (with_bound b) s.lives n (λ i. plain.setup i (record i.setup { bounds = b ∷ i.setup.bounds }))
 
   -- an instance that gets its owner's view is queued besides
@@ -104,13 +123,13 @@ module _ {X : Type 0} {g : Instance → X} (plain : Plain g) where
   given_same : (s : States) (p : Subscriber) (v : Val) → seen (given s p v) ≡ seen s
   given_same s p v = if_same seen (has_cell (live s p.inst) p.cell) (taken s p v) (declared s p v) (seen s) (taken_same s p v) (declared_same s p v)
 
-  over_same : (o : Option Val) (s : States) (p : Subscriber) (id : ℕ) → seen (subscribed_over o s p id) ≡ seen s
-  over_same None s p id = refl
-  over_same (Some v) s p id =
-      given_same _ p v ∙ pictures-altered g (with_subscription (record { cell = p.cell; store = id })) s.lives p.inst (λ i. plain.subscribed i (record { cell = p.cell; store = id }))
+  named_same : (source : Option ℕ) (goal : Goal) (s : States) (p : Subscriber) → seen (named_over source goal s p) ≡ seen s
+  named_same source goal s p =
+      let x : Subscription = record { cell = p.cell; source = source; store = goal.store } in
+      given_same _ p goal.value ∙ pictures-altered g (with_subscription x) s.lives p.inst (λ i. plain.subscribed i (i.subscriptions ++ x ∷ []))
 
-  subscribed_same : (s : States) (p : Subscriber) (id : ℕ) → seen (subscribed_to s p id) ≡ seen s
-  subscribed_same s p id = if_same seen (is_some (live s p.inst) && not (is_subscribed s.stores p)) (subscribed_over (value_at s.stores id) s p id) s (seen s) (over_same (value_at s.stores id) s p id) refl
+  subscribed_same : (s : States) (p : Subscriber) (source : Option ℕ) (v : Val) → seen (subscribed_to s p source v) ≡ seen s
+  subscribed_same s p source v = if_same seen (may_follow s p) (named_over source (goal_of s.stores v) s p) s (seen s) (named_same source (goal_of s.stores v) s p) refl
 
   -- the pictures are these
   pub pictures_stay : (old : List (Option X)) → Stays (λ s. pictures g s ≡ old)
@@ -122,7 +141,7 @@ module _ {X : Type 0} {g : Instance → X} (plain : Plain g) where
     with_store = λ s v h. h;
     with_derived = λ s owner r v h. h;
     declared = λ s p v h. declared_same s p v ∙ h;
-    subscribed = λ s p id h. subscribed_same s p id ∙ h;
+    subscribed = λ s p source v h. subscribed_same s p source v ∙ h;
   }
 
 -- ---- snapshots
@@ -138,7 +157,7 @@ pub snapshots-bound : (s : States) (n : ℕ) (b : Bound) → snapshots (bound_up
 snapshots-bound s n b = pictures-bound plain_snapshot s n b
 
 pub snapshots-handed : (s : States) (p : Subscriber) (v : Val) → snapshots (handed_down s p v) ≡ snapshots s
-snapshots-handed s p v = taken_same plain_snapshot s p v
+snapshots-handed s p v = pictures-handed plain_snapshot s p v
 
 pub snapshots-viewed : (s : States) (n c : ℕ) (view : View) → snapshots (viewed s n c view) ≡ snapshots s
 snapshots-viewed s n c view = by (has_cell (live s n) c) refl where
@@ -158,7 +177,7 @@ pub views-bound : (s : States) (n : ℕ) (b : Bound) → lent_views (bound_up s 
 views-bound s n b = pictures-bound plain_view s n b
 
 pub views-handed : (s : States) (p : Subscriber) (v : Val) → lent_views (handed_down s p v) ≡ lent_views s
-views-handed s p v = taken_same plain_view s p v
+views-handed s p v = pictures-handed plain_view s p v
 
 -- the snapshots are these
 abbrev pub Seen : List (Option Snapshot) → States → Type 0

@@ -5,11 +5,14 @@ use Rattle.sv_derived.specs.Derived.{Recipe}
 use Rattle.sv_instance.specs.declared.setup.Setup.{Setup}
 use Rattle.sv_meaning.specs.Env.{Env}
 use Rattle.sv_meaning.specs.Outcome.{Ending, Ends, Fails, Outcome, Done, Failed, Meaning, Deed, and_then, then_do, kept, doing, left, given, either, with_steps, less_by, spent_in, spent, counted_in, counted, answered}
+use Rattle.sv_meaning.specs.Refused.{unless}
 use Rattle.sv_ops.specs.Answer.{Answer, Gives, Refuses}
 use Rattle.sv_ops.specs.declared.faults.FaultKind.{FaultKind}
 use Rattle.sv_states.specs.Assignment as states
 use Rattle.sv_states.specs.Change as states_change
 use Rattle.sv_states.specs.States.{States, with_instance}
+use Rattle.sv_states.specs.declared.error.AssignError.{AssignError}
+use Rattle.sv_states.specs.declared.error.AssignError.TheVariants.{ReadOnly, NotAStore, NoMemory}
 use Rattle.sv_store.specs.Stores.{Subscriber}
 use Rattle.sv_value.specs.Value.{Val}
 use Rattle.sv_world.specs.declared.world.World.{World}
@@ -23,7 +26,7 @@ pub record Stays (P : States → Type 0) : Type 0 where
   pub with_store : (s : States) (v : Val) → P s → P (states_change.with_store s v)
   pub with_derived : (s : States) (owner : ℕ) (r : Recipe) (v : Val) → P s → P (states_change.with_derived s owner r v)
   pub declared : (s : States) (p : Subscriber) (v : Val) → P s → P (states_change.declared s p v)
-  pub subscribed : (s : States) (p : Subscriber) (id : ℕ) → P s → P (states_change.subscribed_to s p id)
+  pub subscribed : (s : States) (p : Subscriber) (source : Option ℕ) (v : Val) → P s → P (states_change.subscribed_to s p source v)
 
 pub both_stay : {P R : States → Type 0} → Stays P → Stays R → Stays (λ s. P s × R s)
 both_stay h k = record {
@@ -34,7 +37,7 @@ both_stay h k = record {
   with_store = λ s v x. (h.with_store s v x.0, k.with_store s v x.1);
   with_derived = λ s owner r v x. (h.with_derived s owner r v x.0, k.with_derived s owner r v x.1);
   declared = λ s p v x. (h.declared s p v x.0, k.declared s p v x.1);
-  subscribed = λ s p id x. (h.subscribed s p id x.0, k.subscribed s p id x.1);
+  subscribed = λ s p source v x. (h.subscribed s p source v x.0, k.subscribed s p source v x.1);
 }
 
 abbrev pub Held : (P : States → Type 0) {A : Type 0} → Outcome A → Type 0
@@ -65,6 +68,12 @@ module _ (P : States → Type 0) where
   pub if_left : {A : Type 0} (b : Bool) (x y : Ending A) → Left P x → Left P y → Left P (if b then x else y)
   if_left true x y h k = h
   if_left false x y h k = k
+
+  pub unless_left : {A : Type 0} (o : Option AssignError) (s : Span) (d : Deed A) (w : World) → P w.states → Left P (d w) → Left P (unless o s d w)
+  unless_left None s d w h k = k
+  unless_left (Some ReadOnly) s d w h k = h
+  unless_left (Some NotAStore) s d w h k = h
+  unless_left (Some NoMemory) s d w h k = k
 
   kept_held : {A : Type 0} (env : Env) (e : Ending A) → Left P e → Held P (kept env e)
   kept_held env (Ends a w) h = h

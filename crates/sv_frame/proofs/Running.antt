@@ -32,7 +32,7 @@ use Rattle.sv_meaning.specs.Functions.{Teller, Mode, silent, dispatched, dispatc
 use Rattle.sv_meaning.specs.Listeners.{heard_value, heard_result, heard_on, heard, heard_if, heard_attr, heard_by, heard_from, handler_of, is_named, listener_view, Hearer, hearer_of, attrs_of, told, teller}
 use Rattle.sv_meaning.specs.Outcome.{Ending, Ends, Fails, Meaning, Deed, given}
 use Rattle.sv_meaning.specs.Parts.{part_value}
-use Rattle.sv_meaning.specs.Runs.{world_ground, calls, each_in_turn, function_set, functions_set, given_for, prop_value, prop_declared, top_kind, top, script, modules_opened, run_module, run_modules, cell_opened, cells_opened, view_opened, imported_subscribed, opened, run_component, run_top, is_due, inner, run_at, run_due, run_reactive, called, settle}
+use Rattle.sv_meaning.specs.Runs.{world_ground, calls, each_in_turn, function_set, functions_set, given_for, prop_value, prop_declared, top_kind, top, script, modules_opened, run_module, run_modules, cell_opened, cells_opened, view_opened, name_opened, name_subscribed, opened, run_component, run_top, is_due, inner, run_at, run_due, run_reactive, called, settle}
 use Rattle.sv_meaning.specs.Sight.{Ground, ground_in, is_there}
 use Rattle.sv_meaning.specs.Sources.{source, source_of}
 use Rattle.sv_meaning.specs.Statements.{subscribe}
@@ -40,7 +40,7 @@ use Rattle.sv_meaning.specs.declared.limits.TheConstants.{CALL_LIMIT}
 use Rattle.sv_ops.specs.Answer.{object_made}
 use Rattle.sv_ops.specs.declared.faults.Fault.{Fault}
 use Rattle.sv_ops.specs.declared.faults.FaultKind.TheVariants.{NotText, NotAFunction, CallDepth, UseBeforeInit}
-use Rattle.sv_states.specs.States.{States, live}
+use Rattle.sv_states.specs.States.{States, live, value_in}
 use Rattle.sv_states.specs.declared.states.TheConstants.{DEPTH_LIMIT}
 use Rattle.sv_value.specs.Value.{Val, Vals, undefined, null, boolean, number, text, list, object, function, store, items, none}
 use Rattle.sv_view.specs.Constants.{module_constant_at}
@@ -272,23 +272,27 @@ module _ {P : States → Type 0} (stays : Stays P) where
   opened_stays : (c : Component) (owner : ℕ) (w : World) → P w.states → P (opened c owner w).states
   opened_stays c owner w h = functions_stay owner c.script _ (view_stays owner c.view _ (cells_stay owner c.reactive w h))
 
-  imported_left : (owner : ℕ) (k : Known) (x : StoreCell) (w : World) → P w.states → Left P (imported_subscribed owner (record x { holder = k }) w)
-  imported_left owner (known.Export file n) x w h =
-      then_left P (given UseBeforeInit x.span (module_constant_at w.modules file n) w) (subscribe owner x.cell x.span) ((given_leaves UseBeforeInit x.span (module_constant_at w.modules file n)).held w h)
-      (λ v w' h'. (subscribe_leaves stays owner x.cell x.span v).held w' h')
-  imported_left owner (known.Local n) x w h = h
-  imported_left owner (known.Cell n) x w h = h
-  imported_left owner (known.Constant n) x w h = h
-  imported_left owner (known.Life l) x w h = h
-  imported_left owner known.Writable x w h = h
-  imported_left owner known.Derived x w h = h
-  imported_left owner (known.BuiltIn b) x w h = h
+  name_left : (o : Option Val) (owner n : ℕ) (x : StoreCell) (w : World) → P w.states → Left P (name_opened o owner n x w)
+  name_left None owner n x w h = h
+  name_left (Some v) owner n x w h = (subscribe_leaves stays owner x.cell (Some n) x.span v).held w h
 
-  imported_leaves : (owner : ℕ) (x : StoreCell) → Leaves P (imported_subscribed owner x)
-  imported_leaves owner x = record { held = λ w h. imported_left owner x.holder x w h }
+  holder_left : (owner : ℕ) (k : Known) (x : StoreCell) (w : World) → P w.states → Left P (name_subscribed owner (record x { holder = k }) w)
+  holder_left owner (known.Export file n) x w h =
+      then_left P (given UseBeforeInit x.span (module_constant_at w.modules file n) w) (subscribe owner x.cell None x.span) ((given_leaves UseBeforeInit x.span (module_constant_at w.modules file n)).held w h)
+      (λ v w' h'. (subscribe_leaves stays owner x.cell None x.span v).held w' h')
+  holder_left owner (known.Local n) x w h = h
+  holder_left owner (known.Cell n) x w h = name_left (value_in (live w.states owner) n) owner n (record x { holder = known.Cell n }) w h
+  holder_left owner (known.Constant n) x w h = h
+  holder_left owner (known.Life l) x w h = h
+  holder_left owner known.Writable x w h = h
+  holder_left owner known.Derived x w h = h
+  holder_left owner (known.BuiltIn b) x w h = h
+
+  name_leaves : (owner : ℕ) (x : StoreCell) → Leaves P (name_subscribed owner x)
+  name_leaves owner x = record { held = λ w h. holder_left owner x.holder x w h }
 
   component_leaves : (p : Program) (c : Component) (owner : ℕ) (props : List (ℕ × Val)) → Leaves P (run_component p c owner props)
-  component_leaves p c owner props = then_leaves (record { held = λ w h. (in_turn_leaves (imported_subscribed owner) c.stores (imported_leaves owner)).held (opened c owner w) (opened_stays c owner w h) }) (λ u. script_leaves p owner props c.script)
+  component_leaves p c owner props = then_leaves (record { held = λ w h. (in_turn_leaves (name_subscribed owner) c.stores (name_leaves owner)).held (opened c owner w) (opened_stays c owner w h) }) (λ u. script_leaves p owner props c.script)
 
   pub top_leaves : (p : Program) (i : ℕ) (props : List (ℕ × Val)) → Leaves P (run_top p i props)
   top_leaves p i props = record { held = λ w h. by w (component_of p w i) refl h } where

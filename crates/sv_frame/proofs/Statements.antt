@@ -9,13 +9,13 @@ use Rattle.sv_code.specs.declared.functions.CodeStmt.{CodeStmt, CodeStmt-F, roll
 use Rattle.sv_code.specs.declared.functions.CodeStmtKind.{CodeStmtKind, CodeStmtKind-F, roll-CodeStmtKind, map-CodeStmtKind, fold-roll-CodeStmtKind}
 use Rattle.sv_code.specs.declared.known.Known.{Known}
 use Rattle.sv_code.specs.declared.known.Known.TheVariants as known
-use Rattle.sv_frame.proofs.Outcomes.{Stays, Keeps, Leaves, then_held, then_keeps, done_keeps, failed_keeps, either_keeps, counted_keeps, ends_leaves, fails_leaves, doing_keeps}
+use Rattle.sv_frame.proofs.Outcomes.{Stays, Keeps, Leaves, if_left, then_held, then_keeps, done_keeps, failed_keeps, either_keeps, counted_keeps, ends_leaves, fails_leaves, doing_keeps}
 use Rattle.sv_frame.proofs.Values.{Each, each_made, Maybe, CallerKeeps, expr_keeps}
 use Rattle.sv_meaning.specs.Calls.{Caller}
 use Rattle.sv_meaning.specs.Env.{Env, opened}
-use Rattle.sv_meaning.specs.Outcome.{Done, Meaning, Flow, Next, Broken, Continued, Returned}
+use Rattle.sv_meaning.specs.Outcome.{Ends, Fails, Done, Meaning, Flow, Next, Broken, Continued, Returned}
 use Rattle.sv_meaning.specs.Sight.{Ground}
-use Rattle.sv_meaning.specs.Statements.{value_or, constant_set, initialized, subscribe, subscribe_if, declare, go_on, in_order, after_turn, tested, turns, loop, scoped, item_turns, over_list, each_step, otherwise, for_step, Doing, Silent, Counts, done, Arm, first_of, valued, decl_of, stmt_kind_step, stmt_step, arm_step, run, doing_of, arm_of}
+use Rattle.sv_meaning.specs.Statements.{value_or, constant_set, initialized, variable, may_show, subscribe, subscribe_if, declare, go_on, in_order, after_turn, tested, turns, loop, scoped, item_turns, over_list, each_step, otherwise, for_step, Doing, Silent, Counts, done, Arm, first_of, valued, decl_of, stmt_kind_step, stmt_step, arm_step, run, doing_of, arm_of}
 use Rattle.sv_meaning.specs.Values.{value}
 use Rattle.sv_ops.specs.declared.faults.FaultKind.TheVariants.{NotAList, NotAStore, Steps}
 use Rattle.sv_states.specs.States.{States}
@@ -47,23 +47,15 @@ module _ {P : States → Type 0} (stays : Stays P) where
   initialized_keeps owner known.Derived s v = done_keeps v
   initialized_keeps owner (known.BuiltIn b) s v = done_keeps v
 
-  pub subscribe_leaves : (owner cell : ℕ) (s : Span) (v : Val) → Leaves P (subscribe owner cell s v)
-  subscribe_leaves owner cell s (store id) = record { held = λ w h. stays.subscribed w.states (record { inst = owner; cell = cell }) id h }
-  subscribe_leaves owner cell s undefined = fails_leaves NotAStore s
-  subscribe_leaves owner cell s null = fails_leaves NotAStore s
-  subscribe_leaves owner cell s (boolean b) = fails_leaves NotAStore s
-  subscribe_leaves owner cell s (number n) = fails_leaves NotAStore s
-  subscribe_leaves owner cell s (text t) = fails_leaves NotAStore s
-  subscribe_leaves owner cell s (list vs) = fails_leaves NotAStore s
-  subscribe_leaves owner cell s (object fs) = fails_leaves NotAStore s
-  subscribe_leaves owner cell s (function c o held) = fails_leaves NotAStore s
+  pub subscribe_leaves : (owner cell : ℕ) (source : Option ℕ) (s : Span) (v : Val) → Leaves P (subscribe owner cell source s v)
+  subscribe_leaves owner cell source s v = record { held = λ w h. if_left P (may_show source v) _ (Fails NotAStore s w) (stays.subscribed w.states (record { inst = owner; cell = cell }) source v h) h }
 
-  subscribe_if_leaves : (o : Option ℕ) (owner : ℕ) (s : Span) (v : Val) → Leaves P (subscribe_if o owner s v)
-  subscribe_if_leaves None owner s v = ends_leaves tt
-  subscribe_if_leaves (Some cell) owner s v = subscribe_leaves owner cell s v
+  subscribe_if_leaves : (o : Option ℕ) (owner : ℕ) (source : Option ℕ) (s : Span) (v : Val) → Leaves P (subscribe_if o owner source s v)
+  subscribe_if_leaves None owner source s v = ends_leaves tt
+  subscribe_if_leaves (Some cell) owner source s v = subscribe_leaves owner cell source s v
 
   pub declare_keeps : (owner : ℕ) (d : CodeDecl) (v : Val) → Keeps P (declare owner d v)
-  declare_keeps owner d v = then_keeps (initialized_keeps owner d.target d.name.span v) (λ u. then_keeps (doing_keeps (subscribe_if_leaves d.store owner d.name.span u)) (λ t. done_keeps Next))
+  declare_keeps owner d v = then_keeps (initialized_keeps owner d.target d.name.span v) (λ u. then_keeps (doing_keeps (subscribe_if_leaves d.store owner (variable d.target) d.name.span u)) (λ t. done_keeps Next))
 
   go_on_keeps : (f : Flow) {m : Meaning Flow} → Keeps P m → Keeps P (go_on f m)
   go_on_keeps Next k = k

@@ -23,7 +23,7 @@ use Rattle.sv_code.specs.declared.known.Method.TheVariants as method
 use Rattle.sv_code.specs.declared.known.Property.{Property}
 use Rattle.sv_code.specs.declared.program.Program.{Program}
 use Rattle.sv_derived.specs.Derived.{Recipe, Derived, found, next}
-use Rattle.sv_frame.proofs.Outcomes.{Stays, Keeps, Leaves, Held, if_left, then_keeps, done_keeps, failed_keeps, either_keeps, counted_keeps, then_leaves, ends_leaves, fails_leaves, if_leaves, given_leaves, spent_leaves, answered_leaves, doing_keeps, kept_keeps, answered_keeps}
+use Rattle.sv_frame.proofs.Outcomes.{Stays, Keeps, Leaves, Held, if_left, unless_left, then_keeps, done_keeps, failed_keeps, either_keeps, counted_keeps, then_leaves, ends_leaves, fails_leaves, if_leaves, given_leaves, spent_leaves, answered_leaves, doing_keeps, kept_keeps, answered_keeps}
 use Rattle.sv_instance.specs.Callbacks.{with_callback}
 use Rattle.sv_instance.specs.declared.callbacks.When.{When}
 use Rattle.sv_instance.specs.declared.callbacks.When.TheVariants as when
@@ -40,7 +40,8 @@ use Rattle.sv_ops.specs.Operators.{binary, stops, assigned}
 use Rattle.sv_ops.specs.Texts.{between, line_of, texts_of}
 use Rattle.sv_ops.specs.Visits.{Turn, Ends as Stops, Puts as PutsIn, Passes, Holds, turn, arguments, finish}
 use Rattle.sv_ops.specs.declared.faults.FaultKind.TheVariants.{NotAFunction, NotAStore, NoMember, NotText, BadKey, UseBeforeInit}
-use Rattle.sv_states.specs.Assignment.{is_read_only}
+use Rattle.sv_states.specs.Assignment as states
+use Rattle.sv_states.specs.Refusal.{assign_refusal, store_refusal}
 use Rattle.sv_states.specs.States.{States, is_derived}
 use Rattle.sv_value.specs.Change.{truthy}
 use Rattle.sv_value.specs.Key.{key_of}
@@ -113,7 +114,7 @@ module _ {P : States → Type 0} (stays : Stays P) where
   local_held (Some old) x v s env w h = h
 
   assigned_leaves : (sight : Option View) (owner n : ℕ) (v : Val) (s : Span) → Leaves P (cell_assigned sight owner n v s)
-  assigned_leaves None owner n v s = record { held = λ w h. if_left P (is_read_only w.states owner n) (Fails NoMember s w) _ h (stays.assigned w.states owner n v h) }
+  assigned_leaves None owner n v s = record { held = λ w h. unless_left P (assign_refusal w.states owner n v) s (λ w'. Ends v (record w' { states = states.assigned w'.states owner n v })) w h (stays.assigned w.states owner n v h) }
   assigned_leaves (Some view) owner n v s = ends_leaves v
 
   cell_keeps : (o : Option Val) (g : Ground) (owner n : ℕ) (v : Val) (s : Span) → Keeps P (cell_put o g owner n v s)
@@ -188,7 +189,7 @@ module _ {P : States → Type 0} (stays : Stays P) where
     on_list_leaves m s vs args = if_leaves (takes_function m) (with_leaves (is_function (first args)) m s vs args) (answered_leaves s (list_answer m vs args))
 
     store_leaves : (s : Span) (id : ℕ) (v : Val) → Leaves P (store_put s id v)
-    store_leaves s id v = record { held = λ w h. if_left P (is_derived w.states id) (Fails NoMember s w) _ h (stays.store_set w.states id v h) }
+    store_leaves s id v = record { held = λ w h. unless_left P (store_refusal w.states id) s (λ w'. Ends tt (record w' { states = states.store_set w'.states id v })) w h (stays.store_set w.states id v h) }
 
     set_leaves : (s : Span) (id : ℕ) (v : Val) → Leaves P (set_store call s id v)
     set_leaves s id v = then_leaves (store_leaves s id v) (λ u. then_leaves (settled_leaves call.derives calls.derived) (λ t. ends_leaves undefined))

@@ -15,11 +15,12 @@ use Rattle.sv_ops.specs.declared.faults.FaultKind.TheVariants.{NotAFunction, Not
 use Rattle.sv_derived.specs.Derived.{Recipe}
 use Rattle.sv_states.specs.Assignment.{store_set}
 use Rattle.sv_states.specs.Change.{with_store, with_derived}
-use Rattle.sv_states.specs.States.{is_derived}
+use Rattle.sv_states.specs.Refusal.{store_refusal}
 use Rattle.sv_store.specs.Stores.{Store, value_at}
 use Rattle.sv_world.specs.Turn.{logged}
 use Rattle.sv_world.specs.declared.world.World.{World}
 use Rattle.sv_meaning.specs.Outcome.{Ending, Ends, Fails, Deed, then_do, given, spent, answered}
+use Rattle.sv_meaning.specs.Refused.{unless}
 use Rattle.sv_meaning.specs.Settling.{settled, inputs_in, recipe}
 use Rattle.sv_meaning.specs.Sources.{source_of}
 
@@ -82,7 +83,7 @@ visit call m s vs args w = visit_with (is_function (first args)) call m s vs arg
 
 -- a store takes the value, unless it is a derived one, which has no such method
 abbrev pub store_put : Span → ℕ → Val → Deed (Unit {0})
-store_put s id v w = if is_derived w.states id then Fails NoMember s w else Ends tt (record w { states = store_set w.states id v })
+store_put s id v w = unless (store_refusal w.states id) s (λ w'. Ends tt (record w' { states = store_set w'.states id v })) w
 
 -- the same, after which derived stores settle
 abbrev pub set_store : Caller → Span → ℕ → Val → Deed Val

@@ -2,7 +2,7 @@
 use Rattle.std.specs.Prelude.{◌≡◌, Result, Ok, Err}
 use Rattle.sv_base.specs.declared.span.Span.{Span}
 use Rattle.sv_ops.specs.declared.faults.Fault.{Fault as FaultAt}
-use Rattle.sv_ops.specs.declared.faults.FaultKind.TheVariants.{NoMember}
+use Rattle.sv_ops.specs.declared.faults.FaultKind.TheVariants.{NoMember, NotAStore}
 use Rattle.sv_states.specs.declared.error.AssignError.{AssignError}
 use Rattle.sv_states.specs.declared.error.AssignError.TheVariants as refused
 use Rattle.sv_value.specs.Value.{Val}
@@ -40,8 +40,9 @@ flow_of end.Broken = Broken
 flow_of end.Continued = Continued
 flow_of (end.Returned v) = Returned (view_of v)
 
--- what an assignment at a place answers: nobody sets a derived store
+-- what an assignment at a place answers
 abbrev pub assigned_at : Span → Result (Unit {0}) AssignError → Result (Unit {0}) EvalError
 assigned_at s (Ok u) = Ok u
 assigned_at s (Err refused.ReadOnly) = Err (Fault (record { kind = NoMember; span = s }))
+assigned_at s (Err refused.NotAStore) = Err (Fault (record { kind = NotAStore; span = s }))
 assigned_at s (Err refused.NoMemory) = Err NoMemory

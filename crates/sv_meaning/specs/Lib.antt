@@ -1,5 +1,6 @@
 pub mod Env
 pub mod Outcome
+pub mod Refused
 pub mod Settling
 pub mod Sources
 pub mod Sight

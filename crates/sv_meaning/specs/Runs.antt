@@ -17,7 +17,7 @@ use Rattle.sv_code.specs.declared.program.Run.{Run}
 use Rattle.sv_code.specs.declared.program.StoreCell.{StoreCell}
 use Rattle.sv_ops.specs.declared.faults.FaultKind.TheVariants.{NotAStore, UseBeforeInit}
 use Rattle.sv_states.specs.Change.{declared}
-use Rattle.sv_states.specs.States.{live, is_dirty_in}
+use Rattle.sv_states.specs.States.{live, value_in, is_dirty_in}
 use Rattle.sv_value.specs.Value.{Val, undefined, function, none}
 use Rattle.sv_view.specs.Constants.{no_constants, module_constant_at}
 use Rattle.sv_world.specs.declared.world.World.{World}
@@ -127,19 +127,26 @@ abbrev pub view_opened : ℕ → Option ℕ → World → World
 view_opened owner None w = w
 view_opened owner (Some n) w = cell_opened owner w n
 
--- what is imported in braces is subscribed to before the script runs, where it is a store; a constant is, where it is declared
-abbrev pub imported_subscribed : ℕ → StoreCell → Deed (Unit {0})
-imported_subscribed owner x w = from x.holder where
+-- a variable that is there already has its `$` name from the start
+abbrev pub name_opened : Option Val → ℕ → ℕ → StoreCell → Deed (Unit {0})
+name_opened None owner n x w = Ends tt w
+name_opened (Some v) owner n x w = subscribe owner x.cell (Some n) x.span v w
+
+-- what is imported in braces is subscribed to before the script runs, where it is a store; a constant or another variable is, where it is
+-- declared
+abbrev pub name_subscribed : ℕ → StoreCell → Deed (Unit {0})
+name_subscribed owner x w = from x.holder where
   from : Known → Ending (Unit {0})
-  from (known.Export file n) = then_do (given UseBeforeInit x.span (module_constant_at w.modules file n) w) (subscribe owner x.cell x.span)
+  from (known.Export file n) = then_do (given UseBeforeInit x.span (module_constant_at w.modules file n) w) (subscribe owner x.cell None x.span)
   from (known.Constant n) = Ends tt w
+  from (known.Cell n) = name_opened (value_in (live w.states owner) n) owner n x w
   from _ = Fails NotAStore x.span w
 
 abbrev pub opened : Component → ℕ → World → World
 opened c owner w = functions_set owner c.script (view_opened owner c.view (cells_opened owner c.reactive w))
 
 abbrev pub run_component : Program → Component → ℕ → List (ℕ × Val) → Deed (Unit {0})
-run_component p c owner props w = then_do (each_in_turn (imported_subscribed owner) c.stores (opened c owner w)) (λ u. script p owner props c.script)
+run_component p c owner props w = then_do (each_in_turn (name_subscribed owner) c.stores (opened c owner w)) (λ u. script p owner props c.script)
 
 -- the script of an instance, with what was given for its props
 abbrev pub run_top : Program → ℕ → List (ℕ × Val) → Deed (Unit {0})

@@ -12,7 +12,7 @@ use Rattle.sv_ops.specs.Answer.{function_made}
 use Rattle.sv_ops.specs.declared.faults.FaultKind.TheVariants.{NoMember, UseBeforeInit}
 use Rattle.sv_states.specs.States.{live, cell_in}
 use Rattle.sv_states.specs.Assignment as states
-use Rattle.sv_states.specs.Assignment.{is_read_only}
+use Rattle.sv_states.specs.Refusal.{assign_refusal}
 use Rattle.sv_value.specs.Value.{Val, undefined}
 use Rattle.sv_view.specs.Constants.{constant_at, module_constant_at}
 use Rattle.sv_view.specs.Level.{View}
@@ -23,6 +23,7 @@ use Rattle.sv_world.specs.declared.world.World.{World}
 use Rattle.sv_meaning.specs.Calls.{Caller}
 use Rattle.sv_meaning.specs.Env.{Env, look, given_value}
 use Rattle.sv_meaning.specs.Outcome.{Ending, Ends, Fails, Deed, Outcome, Done, Failed, Meaning, and_then, then_do, kept, doing, given, answered}
+use Rattle.sv_meaning.specs.Refused.{unless}
 use Rattle.sv_meaning.specs.Settling.{settled}
 
 -- what stays the same while the body of a function runs: the program; of a pure evaluation the view, and the arrows that are written in its
@@ -81,9 +82,9 @@ abbrev pub local_set : Option Val → ℕ → Val → Span → Meaning Val
 local_set None x v s env w = Failed UseBeforeInit s w
 local_set (Some old) x v s env w = Done v (given_value x v env) w
 
--- a cell of the owner is assigned, unless that would set a derived store; a pure evaluation changes none
+-- a cell of the owner is assigned, unless something speaks against it; a pure evaluation changes none
 abbrev pub cell_assigned : Option View → ℕ → ℕ → Val → Span → Deed Val
-cell_assigned None owner n v s w = if is_read_only w.states owner n then Fails NoMember s w else Ends v (record w { states = states.assigned w.states owner n v })
+cell_assigned None owner n v s w = unless (assign_refusal w.states owner n v) s (λ w'. Ends v (record w' { states = states.assigned w'.states owner n v })) w
 cell_assigned (Some view) owner n v s w = Ends v w
 
 abbrev pub cell_put : Option Val → Ground → ℕ → ℕ → Val → Span → Meaning Val

@@ -11,6 +11,7 @@ use Rattle.sv_code.specs.declared.functions.CodeStmtKind.{CodeStmtKind, CodeStmt
 use Rattle.sv_code.specs.declared.known.Known.{Known}
 use Rattle.sv_code.specs.declared.known.Known.TheVariants as known
 use Rattle.sv_ops.specs.declared.faults.FaultKind.TheVariants.{NotAList, NotAStore, Steps}
+use Rattle.sv_states.specs.Moving.{may_hold}
 use Rattle.sv_states.specs.Change.{declared, subscribed_to}
 use Rattle.sv_value.specs.Change.{truthy}
 use Rattle.sv_value.specs.Value.{Val, undefined, null, boolean, number, text, list, object, function, store, items}
@@ -42,18 +43,29 @@ initialized owner (known.Cell n) s v env w = Done v env (record w { states = dec
 initialized owner (known.Constant n) s v env w = Done v env (constant_set owner s.file n v w)
 initialized owner _ s v env w = Done v env w
 
--- the cell of `$x` is subscribed to the store that `x` holds
-abbrev pub subscribe : ℕ → ℕ → Span → Val → Deed (Unit {0})
-subscribe owner cell s (store id) w = Ends tt (record w { states = subscribed_to w.states (record { inst = owner; cell = cell }) id })
-subscribe owner cell s _ w = Fails NotAStore s w
+-- the cell of a variable
+abbrev pub variable : Known → Option ℕ
+variable (known.Cell n) = Some n
+variable _ = None
 
-abbrev pub subscribe_if : Option ℕ → ℕ → Span → Val → Deed (Unit {0})
-subscribe_if None owner s v w = Ends tt w
-subscribe_if (Some cell) owner s v w = subscribe owner cell s v w
+-- whether what has a `$` name may have a value: a constant has a store, a variable has a store or nothing
+abbrev pub may_show : Option ℕ → Val → Bool
+may_show None (store id) = true
+may_show None _ = false
+may_show (Some n) v = may_hold v
+
+-- the cell of `$x` is subscribed to the store that `x` has, a constant or the variable in a cell; where a variable has nothing, it is undefined
+abbrev pub subscribe : ℕ → ℕ → Option ℕ → Span → Val → Deed (Unit {0})
+subscribe owner cell source s v w =
+    if may_show source v then Ends tt (record w { states = subscribed_to w.states (record { inst = owner; cell = cell }) source v }) else Fails NotAStore s w
+
+abbrev pub subscribe_if : Option ℕ → ℕ → Option ℕ → Span → Val → Deed (Unit {0})
+subscribe_if None owner source s v w = Ends tt w
+subscribe_if (Some cell) owner source s v w = subscribe owner cell source s v w
 
 -- a declaration with the value that its name gets
 abbrev pub declare : ℕ → CodeDecl → Val → Meaning Flow
-declare owner d v env w = and_then (initialized owner d.target d.name.span v env w) (λ u env' w'. and_then (kept env' (subscribe_if d.store owner d.name.span u w')) (λ t. Done Next))
+declare owner d v env w = and_then (initialized owner d.target d.name.span v env w) (λ u env' w'. and_then (kept env' (subscribe_if d.store owner (variable d.target) d.name.span u w')) (λ t. Done Next))
 
 abbrev pub go_on : Flow → Meaning Flow → Meaning Flow
 go_on Next m = m

@@ -66,13 +66,15 @@ pub fn answer(
     }
 }
 
-/// What an assignment at a place answers: `NoMember` exactly where a derived store would be set.
+/// What an assignment at a place answers: `NoMember` exactly where a derived store would be set, and `NotAStore` exactly where a `$` name
+/// would be assigned that looks at no store, or a variable with a `$` name would get what is neither a store nor nothing.
 pub fn assigned(given: Result<(), AssignError>, span: Span) -> Result<(), EvalError>
     ensures { result ≡ assigned_at span given }
 {
     match given {
         Ok(()) => Ok(()),
         Err(AssignError::ReadOnly) => Err(fault(FaultKind::NoMember, span)),
+        Err(AssignError::NotAStore) => Err(fault(FaultKind::NotAStore, span)),
         Err(AssignError::NoMemory) => Err(EvalError::NoMemory),
     }
 }

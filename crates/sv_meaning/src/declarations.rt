@@ -7,7 +7,7 @@ ghost use Rattle.sv_meaning.specs.Env.{Env};
 ghost use Rattle.sv_meaning.specs.Functions.{env_of, returned, event_fields};
 ghost use Rattle.sv_meaning.specs.Gives.{Gives, EndsAs};
 ghost use Rattle.sv_meaning.specs.Outcome.{Next, Done};
-ghost use Rattle.sv_meaning.specs.Statements.{declare, initialized, constant_set, subscribe, subscribe_if};
+ghost use Rattle.sv_meaning.specs.Statements.{declare, initialized, constant_set, variable, may_show, subscribe, subscribe_if};
 ghost use Rattle.sv_meaning.specs.Gives.{flow_of};
 
 use crate::counting::fault;
@@ -46,7 +46,13 @@ pub fn declare(
     let held = value.share()?;
     initialize(world, locals, owner, decl, value)?;
     match decl.store {
-        Some(cell) => subscribe(world, Sub { inst: owner, cell }, &held, span),
+        Some(cell) => subscribe(
+            world,
+            Sub { inst: owner, cell },
+            variable(decl.target),
+            &held,
+            span,
+        ),
         None => Ok(()),
     }
 }
@@ -98,16 +104,44 @@ pub fn set_constant(
     }
 }
 
-/// A cell is subscribed to the store that a value is; `NotAStore` at the place exactly where it is none.
-pub fn subscribe(world: &mut World, at: Sub, value: &Value, span: Span) -> Result<(), EvalError>
-    ensures means { EndsAs (λ u. u) result world.new (subscribe at.inst.number at.cell span (view_of value.now) world.old) }
+// The cell of a variable.
+fn variable(target: Known) -> Option<u8>
+    ensures { result ≡ variable target }
+{
+    match target {
+        Known::Cell(cell) => Some(cell),
+        _ => None,
+    }
+}
+
+/// The cell of a `$` name is subscribed to the store that its name has, a constant or the variable in `source`; where a variable has
+/// `undefined` or `null`, the cell is undefined. `NotAStore` at the place exactly where the value is another.
+pub fn subscribe(
+    world: &mut World,
+    at: Sub,
+    source: Option<u8>,
+    value: &Value,
+    span: Span,
+) -> Result<(), EvalError>
+    ensures means { EndsAs (λ u. u) result world.new (subscribe at.inst.number at.cell source span (view_of value.now) world.old) }
     ensures fewer { world.new.turn.steps ≤ world.old.turn.steps }
 {
-    let Value::Store(id) = value else {
+    if !may_show(source, value) {
         return Err(fault(FaultKind::NotAStore, span));
-    };
-    world.states.subscribe(at, *id)?;
+    }
+    world.states.subscribe(at, source, value)?;
     Ok(())
+}
+
+// Whether what has a `$` name may have a value.
+fn may_show(source: Option<u8>, value: &Value) -> bool
+    ensures { result ≡ may_show source (view_of value.now) }
+{
+    match value {
+        Value::Store(_) => true,
+        Value::Undefined | Value::Null => source.is_some(),
+        _ => false,
+    }
 }
 
 /// The names that are open in the body of a function: those that it took along, its parameters, and what it declares.

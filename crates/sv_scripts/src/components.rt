@@ -1,11 +1,12 @@
 // The scripts of components as they are made.
-ghost use Rattle.std.specs.Prelude.{◌≡◌, map, IfOk, OnOk, option_copied};
+ghost use Rattle.std.specs.Prelude.{◌≡◌, None, map, IfOk, OnOk, option_copied};
 ghost use Rattle.sv_meaning.specs.Gives.{EndsAs};
 ghost use Rattle.sv_meaning.specs.Outcome.{given, then_do};
-ghost use Rattle.sv_meaning.specs.Runs.{cell_opened, cells_opened, view_opened, imported_subscribed, each_in_turn, opened, run_component, run_top};
+ghost use Rattle.sv_meaning.specs.Runs.{cell_opened, cells_opened, view_opened, name_subscribed, each_in_turn, opened, name_opened, run_component, run_top};
 ghost use Rattle.sv_meaning.specs.Statements as spec;
 ghost use Rattle.sv_ops.specs.declared.faults.FaultKind.TheVariants.{UseBeforeInit};
 ghost use Rattle.sv_scripts.specs.Props.{given_as};
+ghost use Rattle.sv_states.specs.States.{live, value_in};
 ghost use Rattle.sv_view.specs.Constants.{module_constant_at};
 
 use crate::script::{Given, Script};
@@ -18,8 +19,8 @@ use sv_store::Sub;
 use sv_value::{Inst, Value};
 use sv_world::World;
 
-/// Runs the script of an instance with the props that were given: what module files give is subscribed where its `$` name is written, then the
-/// statements run in order, but for the reactive ones. After a fault the world is what was done before it. An instance that isn't live has no
+/// Runs the script of an instance with the props that were given: the `$` names of what module files give, and of the variables that are there
+/// already, begin; then the statements run in order, but for the reactive ones. After a fault the world is what was done before it. An instance that isn't live has no
 /// script.
 pub fn run_top(
     alloc: Global,
@@ -41,7 +42,7 @@ pub fn run_top(
     };
     open(world, inst, component);
     script.set_functions(world, component.script.as_slice())?;
-    subscribe_imports(world, inst, component.stores.as_slice())?;
+    subscribe_names(world, inst, component.stores.as_slice())?;
     script.run(world, component.script.as_slice())
 }
 
@@ -69,28 +70,25 @@ fn open_cell(world: &mut World, inst: Inst, cell: u8)
     world.states.declare(Sub { inst, cell }, Value::Undefined);
 }
 
-// What is imported in braces is subscribed.
-fn subscribe_imports(world: &mut World, inst: Inst, stores: &[StoreCell]) -> Result<(), EvalError>
-    ensures { EndsAs (λ u. u) result world.new (each_in_turn (imported_subscribed inst.number) stores.now world.old) }
+// The `$` names of what is imported in braces, and of the variables that are there, are subscribed.
+fn subscribe_names(world: &mut World, inst: Inst, stores: &[StoreCell]) -> Result<(), EvalError>
+    ensures { EndsAs (λ u. u) result world.new (each_in_turn (name_subscribed inst.number) stores.now world.old) }
 {
     for store in stores {
-        subscribe_import(world, inst, store)?;
+        subscribe_name(world, inst, store)?;
     }
     Ok(())
 }
 
-fn subscribe_import(world: &mut World, inst: Inst, store: &StoreCell) -> Result<(), EvalError>
-    ensures { EndsAs (λ u. u) result world.new (imported_subscribed inst.number store.now world.old) }
+fn subscribe_name(world: &mut World, inst: Inst, store: &StoreCell) -> Result<(), EvalError>
+    ensures { EndsAs (λ u. u) result world.new (name_subscribed inst.number store.now world.old) }
 {
     match store.holder {
         Known::Export { file, constant } => subscribe_export(world, inst, store, file, constant),
         Known::Constant(_) => Ok(()),
-        Known::Local(_)
-        | Known::Cell(_)
-        | Known::Life(_)
-        | Known::Writable
-        | Known::Derived
-        | Known::BuiltIn(_) => Err(fault(FaultKind::NotAStore, store.span)),
+        Known::Cell(cell) => subscribe_variable(world, inst, store, cell),
+        Known::Local(_) | Known::Life(_) | Known::Writable | Known::Derived | Known::BuiltIn(_) =>
+            Err(fault(FaultKind::NotAStore, store.span)),
     }
 }
 
@@ -102,7 +100,7 @@ fn subscribe_export(
     file: u16,
     constant: u32,
 ) -> Result<(), EvalError>
-    ensures { EndsAs (λ u. u) result world.new (then_do (given UseBeforeInit store.now.span (module_constant_at world.old.modules file constant) world.old) (spec.subscribe inst.number store.now.cell store.now.span)) }
+    ensures { EndsAs (λ u. u) result world.new (then_do (given UseBeforeInit store.now.span (module_constant_at world.old.modules file constant) world.old) (spec.subscribe inst.number store.now.cell None store.now.span)) }
 {
     let Some(value) = world.modules.get(file, constant) else {
         return Err(fault(FaultKind::UseBeforeInit, store.span));
@@ -112,5 +110,25 @@ fn subscribe_export(
         inst,
         cell: store.cell,
     };
-    subscribe(world, at, &value, store.span)
+    subscribe(world, at, None, &value, store.span)
+}
+
+// A variable that is there already has its `$` name from the start.
+fn subscribe_variable(
+    world: &mut World,
+    inst: Inst,
+    store: &StoreCell,
+    cell: u8,
+) -> Result<(), EvalError>
+    ensures { EndsAs (λ u. u) result world.new (name_opened (value_in (live world.old.states inst.number) cell) inst.number cell store.now world.old) }
+{
+    let Some(held) = world.cell(inst, cell) else {
+        return Ok(());
+    };
+    let value = held.value.share()?;
+    let at = Sub {
+        inst,
+        cell: store.cell,
+    };
+    subscribe(world, at, Some(cell), &value, store.span)
 }

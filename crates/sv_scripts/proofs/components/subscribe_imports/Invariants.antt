@@ -1,6 +1,0 @@
-use Rattle.std.proofs.Common.{◌≡◌, [], map, drop, take}
-use Rattle.sv_meaning.specs.Runs.{each_in_turn, imported_subscribed}
-use Rattle.sv_scripts.proofs.components.subscribe_imports.Given as goal
-
-abbrev pub invariant-loop-store : goal.invariant-loop-store
-invariant-loop-store l = each_in_turn (imported_subscribed l.inst.number) l.stores l.fn.world ≡ each_in_turn (imported_subscribed l.inst.number) (drop l.store-index l.stores) l.world
