@@ -16,10 +16,10 @@ use Rattle.sv_flush.specs.Destruction.{gone, taken, child_task, destroyed_by, ch
 use Rattle.sv_flush.specs.Flush.{updated, bound_at, bound, all_bound, rendered_one, round, flush_ended, flushed}
 use Rattle.sv_flush.specs.Outcome.{Outcome, Done, Halted, Task, and_then, in_world, ended, scripted, work, work_if, each}
 use Rattle.sv_flush.specs.Rounds.{Binding, Waiting, mounting, after_update, has_run, with_ran, waiting_callbacks}
-use Rattle.sv_flush.specs.Setting.{stays, prop_set, set, lent_to, lent_if}
+use Rattle.sv_flush.specs.Setting.{stays, prop_of, handed, prop_set, set, lent_to, lent_if}
 use Rattle.sv_flush.specs.Showing.{tags_of, tag_shown, tag_kept, tags_kept, followed, patched_on, patched_now, shown}
 use Rattle.sv_flush.specs.declared.page.Page.{Page}
-use Rattle.sv_frame.proofs.Outcomes.{Stays, Leaves, Left, if_left, then_leaves, ends_leaves}
+use Rattle.sv_frame.proofs.Outcomes.{Stays, Leaves, Left, if_left, unless_left, then_leaves, ends_leaves}
 use Rattle.sv_frame.proofs.Running.{modules_leave, top_leaves, reactive_leaves, called_leaves, in_turn_leaves, settle_leaves}
 use Rattle.sv_instance.specs.Callbacks.{with_callback}
 use Rattle.sv_instance.specs.declared.callbacks.When.{When}
@@ -27,7 +27,6 @@ use Rattle.sv_instance.specs.declared.callbacks.When.TheVariants.{Mount, Before,
 use Rattle.sv_instance.specs.declared.instance.Instance.{Instance}
 use Rattle.sv_meaning.specs.Components.{component_at, component_of, markup_of}
 use Rattle.sv_meaning.specs.Outcome.{Ending, Ends, Fails, Deed}
-use Rattle.sv_ops.specs.declared.faults.FaultKind.TheVariants.{NoMember}
 use Rattle.sv_parts.specs.State.{Outcome as Planned}
 use Rattle.sv_parts.specs.declared.state.Effect.{Effect}
 use Rattle.sv_parts.specs.declared.state.Effect.TheVariants as effect
@@ -37,8 +36,8 @@ use Rattle.sv_plan.specs.Patch.{begun, ended as patch_ended, patched}
 use Rattle.sv_shapes.specs.Showing.{Showing, recorded as shown_on, shown_of, child_at}
 use Rattle.sv_shapes.specs.declared.shape.Shape.{Shape}
 use Rattle.sv_shapes.specs.declared.shown.Shown.{Shown}
-use Rattle.sv_states.specs.Assignment.{is_bound_to_fixed}
 use Rattle.sv_states.specs.Change.{place_below}
+use Rattle.sv_states.specs.Refusal.{hand_refusal, bind_refusal}
 use Rattle.sv_states.specs.States.{States, live}
 use Rattle.sv_states.specs.declared.states.TheConstants.{DEPTH_LIMIT}
 use Rattle.sv_value.specs.Value.{Val, undefined, null, boolean, number, text, list, object, function, store}
@@ -114,13 +113,15 @@ module _ {P : Option ℕ → List Level → List (ℕ × Shown) → States → T
 
     -- ---- what is handed down
 
-    if_lasts : (shown : List (ℕ × Shown)) (b : Bool) (x y : World) → P but due shown x.states → P but due shown y.states → P but due shown (if b then x else y).states
-    if_lasts shown true x y h k = h
-    if_lasts shown false x y h k = k
+    handed_leaves : (shown : List (ℕ × Shown)) (n : ℕ) (g : Given) → Leaves (P but due shown) (handed n g)
+    handed_leaves shown n g =
+        record { held = λ w h. unless_left (P but due shown) (hand_refusal w.states (prop_of n g) g.value) g.span _ w h (lasts.hands but due shown w.states (prop_of n g) g.value h) }
 
-    set_lasts : (shown : List (ℕ × Shown)) (n : ℕ) (props : List Given) (w : World) → P but due shown w.states → P but due shown (set n props w).states
-    set_lasts shown n [] w h = h
-    set_lasts shown n (g ∷ props) w h = set_lasts shown n props (prop_set n g w) (if_lasts shown (stays w n g) w _ h (lasts.hands but due shown w.states (record { inst = n; cell = g.cell }) g.value h))
+    prop_leaves : (shown : List (ℕ × Shown)) (n : ℕ) (g : Given) → Leaves (P but due shown) (prop_set n g)
+    prop_leaves shown n g = record { held = λ w h. if_left (P but due shown) (stays w n g) (Ends tt w) (handed n g w) h ((handed_leaves shown n g).held w h) }
+
+    set_leaves : (shown : List (ℕ × Shown)) (n : ℕ) (props : List Given) → Leaves (P but due shown) (set n props)
+    set_leaves shown n props = in_turn_leaves (lasts.scripts but due shown) (prop_set n) props (prop_leaves shown n)
 
     to_lasts : (shown : List (ℕ × Shown)) (c : Component) (cell : Option ℕ) (n : ℕ) (view : View) (w : World) → IsOf due view → P but due shown w.states → P but due shown (lent_to (Some (record c { view = cell })) n view w).states
     to_lasts shown c None n view w d h = h
@@ -277,7 +278,8 @@ module _ {P : Option ℕ → List Level → List (ℕ × Shown) → States → T
     tag_brings (Some t) k = k t
 
     set_brings : (props : List Given) (view : Option View) (n : ℕ) → HandsView (IsOf due) view → Brings (On None due) (On None due) (child_set p props view n)
-    set_brings props view n d = world_brings _ (λ shown w h. lent_if_lasts shown n view (set n props w) d (set_lasts shown n props w h))
+    set_brings props view n d =
+        brings_then (scripted_brings (λ shown. set_leaves shown n props)) (λ _. brings_then (world_brings (lent_if p n view) (λ shown w h. lent_if_lasts shown n view w d h)) (λ _. nothing_brings))
 
   abbrev Creates : Type 0
   Creates = (parent place k : ℕ) → List Given → View → Tag → Task
@@ -320,7 +322,7 @@ module _ {P : Option ℕ → List Level → List (ℕ × Shown) → States → T
         brings_then (changed_brings {Q = On None due} {R = On None due} (after_waits n) (λ m h. h)) (λ _. nothing_brings))))
 
     at_leaves : (shown : List (ℕ × Shown)) (b : Binding) → Leaves (P None due shown) (bound_at b)
-    at_leaves shown b = record { held = λ w h. if_left (P None due shown) (is_bound_to_fixed w.states b.child b.bound) (Fails NoMember b.span w) _ h (lasts.binds due shown w.states b.child b.bound h) }
+    at_leaves shown b = record { held = λ w h. unless_left (P None due shown) (bind_refusal w.states b.child b.bound) b.span _ w h (lasts.binds due shown w.states b.child b.bound h) }
 
     bound_leaves : (shown : List (ℕ × Shown)) (b : Binding) → Leaves (P None due shown) (bound p b)
     bound_leaves shown b = then_leaves (at_leaves shown b) (λ u. settle_leaves (lasts.scripts None due shown) p)

@@ -21,8 +21,9 @@ use Rattle.sv_numbered.specs.Numbered.{at}
 use Rattle.sv_shapes.specs.declared.shown.Shown.{Shown}
 use Rattle.sv_states.proofs.Altering.{at_within, at-altered_same, at-altered_none, altered-none, altered-some}
 use Rattle.sv_states.proofs.Keeping.{new-born}
-use Rattle.sv_states.proofs.Sounding.{sound-inert, sound-sent, sound-bound, sound-viewed, sound-declared, sound-taken, sound-store, sound-computed, sound-derived, sound-added, sound-subscribed, sound-snapped, sound-removed}
-use Rattle.sv_states.specs.Assignment.{way_of, handed_down, bound_up}
+use Rattle.sv_states.proofs.Naming.{sound-sent, sound-bound, sound-subscribed}
+use Rattle.sv_states.proofs.Sounding.{sound-inert, sound-viewed, sound-declared, sound-store, sound-computed, sound-derived, sound-added, sound-snapped, sound-removed}
+use Rattle.sv_states.specs.Assignment.{way_of, way_into, handed_down, bound_up}
 use Rattle.sv_states.specs.Change.{added, removed, viewed}
 use Rattle.sv_states.specs.Prepared.{IsNew}
 use Rattle.sv_states.specs.Sound.{IsSound}
@@ -39,13 +40,13 @@ use Rattle.sv_world.specs.World.{present_view}
 pub sound_stays : Stays IsSound
 sound_stays = record {
   left = λ s f n h. sound-inert (λ i. record i { setup = f i.setup }) s n (λ i. refl) (λ i. refl) (λ i. refl) h;
-  assigned = λ s n c v h. sound-sent s (way_of s n c) v h;
+  assigned = λ s n c v h. sound-sent s (way_of s n c v) v h;
   store_set = λ s id v h. sound-sent s (record { cells = []; store = Some id }) v h;
   computed = λ s id v h. sound-computed s id v h;
   with_store = λ s v h. sound-store s v h;
   with_derived = λ s owner r v h. sound-derived s owner r v h;
   declared = λ s p v h. sound-declared s p v h;
-  subscribed = λ s p id h. sound-subscribed s p id h;
+  subscribed = λ s p source v h. sound-subscribed s p source v h;
 }
 
 -- a fact of sound states goes by their snapshots and the views that were lent
@@ -64,7 +65,7 @@ module _ {P : States → Type 0} (goes : GoesBy P) where
     with_store = λ s v h. goes.on s _ h (sound_stays.with_store s v (goes.sound s h)) refl refl;
     with_derived = λ s owner r v h. goes.on s _ h (sound_stays.with_derived s owner r v (goes.sound s h)) refl refl;
     declared = λ s p v h. goes.on s _ h (sound_stays.declared s p v (goes.sound s h)) ((seen_stays (snapshots s)).declared s p v refl) ((lent_stays (lent_views s)).declared s p v refl);
-    subscribed = λ s p id h. goes.on s _ h (sound_stays.subscribed s p id (goes.sound s h)) ((seen_stays (snapshots s)).subscribed s p id refl) ((lent_stays (lent_views s)).subscribed s p id refl);
+    subscribed = λ s p source v h. goes.on s _ h (sound_stays.subscribed s p source v (goes.sound s h)) ((seen_stays (snapshots s)).subscribed s p source v refl) ((lent_stays (lent_views s)).subscribed s p source v refl);
   }
 
   -- and what flushes do besides
@@ -72,7 +73,7 @@ module _ {P : States → Type 0} (goes : GoesBy P) where
   goes-bound s n b h = goes.on s _ h (sound-bound s n b (goes.sound s h)) (snapshots-bound s n b) (views-bound s n b)
 
   pub goes-handed : (s : States) (p : Subscriber) (v : Val) → P s → P (handed_down s p v)
-  goes-handed s p v h = goes.on s _ h (sound-taken s p v (goes.sound s h)) (snapshots-handed s p v) (views-handed s p v)
+  goes-handed s p v h = goes.on s _ h (sound-sent s (way_into s p v) v (goes.sound s h)) (snapshots-handed s p v) (views-handed s p v)
 
 -- ---- records
 

@@ -165,7 +165,7 @@ tag_task (Some t) task = task t
 
 -- the child at a place gets what moved
 abbrev pub child_set : Program → List Given → Option View → ℕ → Task
-child_set p props view n = in_world (λ w. lent_if p n view (set n props w))
+child_set p props view n = in_turn (scripted (set n props) ∷ in_world (lent_if p n view) ∷ [])
 
 -- an effect of the patch of an instance, by how a child of it is made
 abbrev pub effect_by : Program → ((parent place k : ℕ) → List Given → View → Tag → Task) → ℕ → Effect → Task

@@ -1,5 +1,5 @@
 -- Updates, and rounds until nobody waits.
-use Rattle.std.specs.Prelude.{ℕ, zero, suc, false, List, [], ◌∷◌, reverse, if◌then◌else◌}
+use Rattle.std.specs.Prelude.{ℕ, zero, suc, false, List, [], ◌∷◌, reverse}
 use Rattle.sv_code.specs.declared.program.Program.{Program}
 use Rattle.sv_flush.specs.Callbacks.{all_mounted, after}
 use Rattle.sv_flush.specs.Creation.{readied, after_waits, effects}
@@ -7,11 +7,12 @@ use Rattle.sv_flush.specs.Outcome.{Outcome, Done, Halted, Task, and_then, in_tur
 use Rattle.sv_flush.specs.Rounds.{Binding, Waiting, mounting, after_update}
 use Rattle.sv_flush.specs.Showing.{shown}
 use Rattle.sv_flush.specs.declared.page.Page.{Page}
-use Rattle.sv_meaning.specs.Outcome.{Ends, Fails, Deed, then_do}
+use Rattle.sv_meaning.specs.Outcome.{Ends, Deed, then_do}
+use Rattle.sv_meaning.specs.Refused.{unless}
 use Rattle.sv_meaning.specs.Runs.{each_in_turn, settle}
-use Rattle.sv_ops.specs.declared.faults.FaultKind.TheVariants.{NoMember}
 use Rattle.sv_parts.specs.declared.refusal.Refusal.TheVariants.{Budget}
-use Rattle.sv_states.specs.Assignment.{bound_up, is_bound_to_fixed}
+use Rattle.sv_states.specs.Assignment.{bound_up}
+use Rattle.sv_states.specs.Refusal.{bind_refusal}
 use Rattle.sv_states.specs.declared.states.TheConstants.{DEPTH_LIMIT}
 
 -- an instance is readied and shown, which takes a unit of work; then its afterUpdate callbacks wait
@@ -33,9 +34,9 @@ until_settled task m = while_queued m.counters.work task m
 
 -- ---- a round
 
--- a prop is bound to a variable of the owner, unless that would set a derived store
+-- a prop is bound to a variable of the owner, unless something speaks against it
 abbrev pub bound_at : Binding → Deed (Unit {0})
-bound_at b w = if is_bound_to_fixed w.states b.child b.bound then Fails NoMember b.span w else Ends tt (record w { states = bound_up w.states b.child b.bound })
+bound_at b w = unless (bind_refusal w.states b.child b.bound) b.span (λ w'. Ends tt (record w' { states = bound_up w'.states b.child b.bound })) w
 
 -- the same, after which derived stores settle
 abbrev pub bound : Program → Binding → Deed (Unit {0})

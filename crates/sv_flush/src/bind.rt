@@ -15,7 +15,8 @@ use sv_scripts::settle;
 use sv_world::World;
 
 impl Machine<'_> {
-    /// Runs the binding callbacks, the last first. `NoMember` comes exactly where one of them would set a derived store, at its directive.
+    /// Runs the binding callbacks, the last first. At the directive of one comes `NoMember` exactly where it would set a derived store, and `NotAStore`
+    /// exactly where it would assign a `$` name that looks at no store, or give a variable with a `$` name what is neither a store nor nothing.
     pub fn bind_all(&self, page: &mut Page) -> Result<(), PatchError>
         ensures { Meets result page.new (spec.all_bound self.now.program.now page.old) }
     {
@@ -41,7 +42,7 @@ impl Machine<'_> {
     }
 }
 
-// A prop is bound to a variable of the owner, unless that would set a derived store.
+// A prop is bound to a variable of the owner, unless something speaks against it.
 fn bind_at(world: &mut World, binding: &Binding) -> Result<(), EvalError>
     ensures { EndsAs (λ u. u) result world.new (spec.bound_at (binding_of binding.now) world.old) }
 {

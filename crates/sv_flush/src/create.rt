@@ -3,7 +3,6 @@ ghost use Rattle.std.specs.Prelude.{◌≡◌, option_copied, map, slice_get, If
 ghost use Rattle.sv_flush.specs.Creation as spec;
 ghost use Rattle.sv_flush.specs.Meets.{Meets};
 ghost use Rattle.sv_flush.specs.Destruction.{child_task};
-ghost use Rattle.sv_flush.specs.Outcome.{Done};
 ghost use Rattle.sv_flush.specs.Sites.{site_seen};
 ghost use Rattle.sv_shapes.specs.Showing.{child_at};
 ghost use Rattle.sv_flush.specs.Showing.{shown};
@@ -129,8 +128,7 @@ impl Machine<'_> {
                 self.create_at(page, room, &birth)
             }
             Effect::Set { place, props, view } => {
-                self.set_at(page, *place, props.as_slice(), view.as_ref())?;
-                Ok(())
+                self.set_at(page, *place, props.as_slice(), view.as_ref())
             }
             Effect::Destroy { place } => self.destroy_at(page, DEPTH_LIMIT, *place),
         }
@@ -216,14 +214,15 @@ impl Machine<'_> {
         place: u64,
         props: &[Given],
         view: Option<&View>,
-    ) -> Result<(), NoMemory>
-        ensures { OnOk result (Done tt page.new ≡ child_task (spec.child_set self.now.program.now props.now (option_copied view.entry)) (child_at page.old.showing place) page.old) }
+    ) -> Result<(), PatchError>
+        ensures { Meets result page.new (child_task (spec.child_set self.now.program.now props.now (option_copied view.entry)) (child_at page.old.showing place) page.old) }
     {
         let Some(child) = page.showing.child(place) else {
             return Ok(());
         };
-        set(&mut page.world, child, props)?;
-        self.lend(&mut page.world, child, view)
+        told(set(&mut page.world, child, props))?;
+        self.lend(&mut page.world, child, view)?;
+        Ok(())
     }
 }
 

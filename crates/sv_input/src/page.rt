@@ -59,7 +59,8 @@ fn named<'a>(
 ///
 /// A fault is the first that a directive meets: what its expression, the function that it calls and the functions of derived stores meet, each at
 /// its own place; `NotAFunction` at an expression whose value can't be called; `Large` at a directive for which the typed text, or the event's
-/// object, is too large; `UseBeforeInit` at a binding whose variable has no value yet, and `NoMember` at one that would set a derived store.
+/// object, is too large; `UseBeforeInit` at a binding whose variable has no value yet, `NoMember` at one that would set a derived store, and
+/// `NotAStore` at one that would assign a `$` name that looks at no store, or give a variable with a `$` name what is neither a store nor nothing.
 /// World and showing are then what was done before it.
 pub fn dispatch(
     desk: &Desk<'_>,

@@ -104,13 +104,14 @@ impl<'a> Session<'a> {
     {
         let machine = &self.machine;
         let page = &self.page;
+        let subscriptions = page.world.subscriptions()?;
         self.nodes = render(machine.alloc, machine.program, &page.world, &page.showing)?;
         self.stage = Stage::Running;
         Ok(Turned {
             target,
             evaluations: page.tally.count,
             instances: page.world.instances(),
-            subscriptions: page.world.subscriptions(),
+            subscriptions,
         })
     }
 

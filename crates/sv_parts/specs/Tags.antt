@@ -2,6 +2,7 @@
 use Rattle.std.specs.Prelude.{ℕ, Bool, true, false, ◌&&◌, nat_eq, List, [], ◌∷◌, ◌++◌, map, Option, Some, None, option_map, Ok, is_some, unwrap_or, slice_get, if◌then◌else◌}
 use Rattle.std.specs.Option.{option_to_list, option_and_then}
 use Rattle.sv_base.specs.declared.names.Name.{Name}
+use Rattle.sv_base.specs.declared.span.Span.{Span}
 use Rattle.sv_code.specs.declared.fragments.FragAttr.{FragAttr}
 use Rattle.sv_code.specs.declared.fragments.FragAttr.TheVariants as attr
 use Rattle.sv_code.specs.declared.program.Component.{Component}
@@ -49,13 +50,13 @@ is_undefined undefined = true
 is_undefined _ = false
 
 -- a variable that is bound passes `undefined` to no new child
-abbrev pub passed_bound : Bool → Name → Val → Option Passed
-passed_bound is_new name v = if is_new && is_undefined v then None else Some (record { name = name; value = v; bound = true })
+abbrev pub passed_bound : Bool → Span → Name → Val → Option Passed
+passed_bound is_new span name v = if is_new && is_undefined v then None else Some (record { name = name; value = v; bound = true; span = span })
 
 abbrev pub passed_as : FragAttr → Bool → Val → Option Passed
-passed_as (attr.Plain span name v) is_new value = Some (record { name = name; value = value; bound = false })
+passed_as (attr.Plain span name v) is_new value = Some (record { name = name; value = value; bound = false; span = span })
 passed_as (attr.On handler reads) is_new value = None
-passed_as (attr.Bind span name part) is_new value = passed_bound is_new name value
+passed_as (attr.Bind span name part) is_new value = passed_bound is_new span name value
 passed_as (attr.Class span name part) is_new value = None
 
 abbrev pub offered : FragAttr → Bool → Valued → Offer
@@ -81,7 +82,7 @@ passed_under name (o ∷ offers) = if is_under name o.passed then o.passed else 
 
 -- what a prop is given
 abbrev pub given_as : Prop → Passed → Given
-given_as prop x = record { cell = prop.cell; value = x.value; bound = x.bound }
+given_as prop x = record { cell = prop.cell; value = x.value; bound = x.bound; span = x.span }
 
 abbrev pub given_to : List Offer → Prop → List Given
 given_to offers prop = option_to_list (option_map (given_as prop) (passed_under prop.name offers))

@@ -6,16 +6,18 @@ use crate::counters::Counters;
 use crate::refusal::{PatchError, Refusal};
 use crate::tally::Tally;
 use std::alloc::Global;
+use sv_base::Span;
 use sv_list::Items;
 use sv_shapes::{Held, Shape, places_of};
 use sv_view::{Locals, View};
 
-/// A value for a cell of a child, and whether the owner has bound a variable to it.
+/// A value for a cell of a child, whether the owner has bound a variable to it, and the place of the attribute that passes it.
 #[derive(Drop)]
 pub struct Given {
     pub cell: u8,
     pub value: Held,
     pub bound: bool,
+    pub span: Span,
 }
 
 /// What a patch does to child components. A place is the number of the place of a component's tag.

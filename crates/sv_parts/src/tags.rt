@@ -11,7 +11,7 @@ use crate::here::Here;
 use crate::refusal::PatchError;
 use crate::state::{Effect, Given, Kept, State, emit, number, remember};
 use crate::values::{Before, Valued, take_alone, take_value};
-use sv_base::{Name, NoMemory, Text};
+use sv_base::{Name, NoMemory, Span, Text};
 use sv_code::{Component, FragAttr, Prop, Tag};
 use sv_list::Items;
 use sv_meaning::component_at;
@@ -19,12 +19,13 @@ use sv_shapes::{Held, Shape, TagTexts, Texts, share_texts};
 use sv_value::Value;
 use sv_view::View;
 
-/// A value that an attribute of a tag passes under its name, and whether it is that of a variable that is bound.
+/// A value that an attribute of a tag passes under its name, whether it is that of a variable that is bound, and the attribute's place.
 #[derive(Drop)]
 pub struct Passed {
     pub name: Name,
     pub value: Held,
     pub bound: bool,
+    pub span: Span,
 }
 
 /// What an attribute of a tag gives: the texts of its parts, which are kept, and what it passes, if anything.
@@ -86,12 +87,13 @@ fn pass(attr: &FragAttr, is_new: bool, value: Held) -> Option<Passed>
     ensures { result ≡ spec.passed_as attr.now is_new value }
 {
     match attr {
-        FragAttr::Plain { name, .. } => Some(Passed {
+        FragAttr::Plain { span, name, .. } => Some(Passed {
             name: *name,
             value,
             bound: false,
+            span: *span,
         }),
-        FragAttr::Bind { name, .. } => {
+        FragAttr::Bind { span, name, .. } => {
             if is_new && is_undefined(value.get()) {
                 return None;
             }
@@ -99,6 +101,7 @@ fn pass(attr: &FragAttr, is_new: bool, value: Held) -> Option<Passed>
                 name: *name,
                 value,
                 bound: true,
+                span: *span,
             })
         }
         FragAttr::On { .. } | FragAttr::Class { .. } => None,
@@ -192,6 +195,7 @@ fn give(all: &mut Items<Given>, prop: Prop, passed: Option<&Passed>) -> Result<(
             cell: prop.cell,
             value: passed.value.share()?,
             bound: passed.bound,
+            span: passed.span,
         }),
         None => Ok(()),
     }
