@@ -4,3 +4,4 @@ pub mod Statements
 pub mod Running
 pub mod Altering
 pub mod Leaving
+pub mod Settling

@@ -1,2 +1,3 @@
 pub mod Snapshots
 pub mod Views
+pub mod Settling
