@@ -10,11 +10,11 @@ use Rattle.sv_derived.proofs.Ordering.{ordered-marked, ordered-done}
 use Rattle.sv_derived.specs.Derived.{Recipe, Derived, found, next, is_input, marked_by, marked, done_by, done}
 use Rattle.sv_derived.specs.Order.{ids, AreBelow, IsFormed, IsOrdered}
 use Rattle.sv_frame.proofs.Outcomes.{Left, then_left, answered_leaves}
-use Rattle.sv_frame.specs.Settling.{after, first_computed, computed_within, computed_in}
+use Rattle.sv_frame.specs.Settling.{after, first_computed, computed_within, computed_in, computed_at}
 use Rattle.sv_meaning.specs.Derived.{input_values, handed, rejoined, called_apart, derive}
 use Rattle.sv_meaning.specs.Outcome.{Ending, Ends, Fails, Deed, then_do, answered}
-use Rattle.sv_meaning.specs.Runs.{settle}
-use Rattle.sv_meaning.specs.Settling.{compute, first_settled, settled_within}
+use Rattle.sv_meaning.specs.Runs.{settle, calls, each_in_turn}
+use Rattle.sv_meaning.specs.Settling.{Derives, compute, first_settled, settled_within}
 use Rattle.sv_meaning.specs.declared.limits.TheConstants.{CALL_LIMIT}
 use Rattle.sv_states.specs.Assignment.{changes_in, taken, told, store_set, computed}
 use Rattle.sv_states.specs.States.{States, live}
@@ -212,6 +212,28 @@ ends_in Q e w is h = subst (EndsIn Q) is h
 
 pub settles : (p : Program) (w w' : World) → IsOrdered w.states.derived → settle p w ≡ Ends tt w' → next w'.states.derived ≡ None
 settles p w w' k is = ends_in Settled (settle p w) w' is (within-ends p CALL_LIMIT (length w.states.derived) 0 w (record { ordered = k; clear = tt; enough = omega arith }))
+
+-- ---- nothing but what is computed
+
+abbrev one-computed : Derives → ℕ → Deed (Unit {0})
+one-computed derives id w = compute derives id (found w.states.derived id) w
+
+then_all : (derives : Derives) (room : ℕ) (e : Ending (Unit {0})) → ((w : World) → settled_within room derives w ≡ each_in_turn (one-computed derives) (computed_within room derives w) w)
+    → then_do e (λ u. settled_within room derives) ≡ then_do e (λ u. each_in_turn (one-computed derives) (after e (computed_within room derives)))
+then_all derives room (Ends u w) h = h w
+then_all derives room (Fails k s w) h = refl
+
+within-all : (derives : Derives) (room : ℕ) (w : World) → settled_within room derives w ≡ each_in_turn (one-computed derives) (computed_within room derives w) w
+within-all derives zero w = refl
+within-all derives (suc room) w = by (λ w'. within-all derives room w') (next w.states.derived)
+  where
+    by : ((w' : World) → settled_within room derives w' ≡ each_in_turn (one-computed derives) (computed_within room derives w') w') → (o : Option ℕ)
+        → first_settled o derives (settled_within room derives) w ≡ each_in_turn (one-computed derives) (first_computed o derives (computed_within room derives) w) w
+    by rest None = refl
+    by rest (Some id) = then_all derives room (one-computed derives id w) rest
+
+pub computes-all : (p : Program) (w : World) → settle p w ≡ each_in_turn (computed_at p) (computed_in p w) w
+computes-all p w = within-all (calls p).derives (length w.states.derived) w
 
 -- ---- each once
 

@@ -5,11 +5,11 @@ ghost use Rattle.sv_base.specs.declared.span.Span.{Span};
 ghost use Rattle.sv_code.specs.declared.program.Program.{Program};
 ghost use Rattle.sv_derived.specs.Derived.{next};
 ghost use Rattle.sv_derived.specs.Order.{IsOrdered};
-ghost use Rattle.sv_frame.specs.Settling.{computed_in};
+ghost use Rattle.sv_frame.specs.Settling.{computed_in, computed_at};
 ghost use Rattle.sv_frame.specs.Snapshots.{LeavesSnapshots};
 ghost use Rattle.sv_frame.specs.Views.{LeavesViews};
 ghost use Rattle.sv_meaning.specs.Outcome.{Ends};
-ghost use Rattle.sv_meaning.specs.Runs.{run_modules, run_top, run_reactive, called, settle};
+ghost use Rattle.sv_meaning.specs.Runs.{run_modules, run_top, run_reactive, called, settle, each_in_turn};
 ghost use Rattle.sv_value.specs.Value.{Val};
 ghost use Rattle.sv_world.specs.declared.world.World.{World};
 
@@ -32,9 +32,10 @@ pub fn scripts_lend_no_views()
     ensures settling { (p : Program) → LeavesViews (settle p) }
 {}
 
-/// Derived stores settle to the end: where nothing faults, none is pending behind it. In one settling each is computed once at most, in the
-/// order in which they were made.
+/// Derived stores settle to the end: where nothing faults, none is pending behind it. A settling computes some one after another and does
+/// nothing else; each once at most, in the order in which they were made.
 pub fn settling_ends()
     ensures last { (p : Program) (w w' : World) → IsOrdered w.states.derived → settle p w ≡ Ends tt w' → next w'.states.derived ≡ None }
+    ensures all { (p : Program) (w : World) → settle p w ≡ each_in_turn (computed_at p) (computed_in p w) w }
     ensures once { (p : Program) (w : World) → IsOrdered w.states.derived → AllPairs (λ m n. m < n) (computed_in p w) }
 {}
