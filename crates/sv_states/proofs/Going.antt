@@ -25,13 +25,13 @@ way-suc (suc room) s v n c h = let e : room ≡ suc room - 1 = omega arith in ap
 pub way-none : (room : ℕ) (s : States) (v : Val) (n c : ℕ) → 0 < room → live s n ≡ None → way room s v n c ≡ nowhere
 way-none room s v n c h none = way-suc room s v n c h ∙ ap (λ o. way_step v o (record { inst = n; cell = c }) (way (room - 1) s v)) none
 
-up-stop : (b : Option Bound) (next : ℕ → ℕ → Way) → above b ≡ None → up b next ≡ nowhere
-up-stop None next e = refl
-up-stop (Some b) next e = cc
+pub up-stop : {A : Type 0} (end : A) (b : Option Bound) (next : ℕ → ℕ → A) → above b ≡ None → up end b next ≡ end
+up-stop end None next e = refl
+up-stop end (Some b) next e = cc
 
-up-go : (b : Option Bound) (next : ℕ → ℕ → Way) (v : Subscriber) → above b ≡ Some v → up b next ≡ next v.inst v.cell
-up-go None next v e = cc
-up-go (Some b) next v e = ap (λ o. next (inst_or o) (cell_or o)) e
+pub up-go : {A : Type 0} (end : A) (b : Option Bound) (next : ℕ → ℕ → A) (v : Subscriber) → above b ≡ Some v → up end b next ≡ next v.inst v.cell
+up-go end None next v e = cc
+up-go end (Some b) next v e = ap (λ o. next (inst_or o) (cell_or o)) e
   where
     inst_or : Option Subscriber → ℕ
     inst_or None = 0
@@ -58,21 +58,21 @@ module _ (room : ℕ) (s : States) (v : Val) (n c : ℕ) (i : Instance) (h : 0 <
       ∙ sym (ap (behind old) (here ∙ (λ k. into (none k) (still k) (bound_at i.setup.bounds c) (record { inst = n; cell = c }) (way (room - 1) s v))))
 
   module _ (cells' : List Subscriber) (store : Option ℕ) (none : subscription_at i.subscriptions c ≡ None) (changes : cells.changes i.cells c v ≡ true) (empty : store ≡ None) (pushed : cells' ≡ old.cells ++ record { inst = n; cell = c } ∷ []) where
-    into_cell : way room s v n c ≡ onward (record { inst = n; cell = c }) (up (bound_at i.setup.bounds c) (way (room - 1) s v))
+    into_cell : way room s v n c ≡ onward (record { inst = n; cell = c }) (up nowhere (bound_at i.setup.bounds c) (way (room - 1) s v))
     into_cell = here ∙ (λ k. into (none k) (changes k) (bound_at i.setup.bounds c) (record { inst = n; cell = c }) (way (room - 1) s v))
 
     -- the way ends behind this cell
     pub behind-stop : above (bound_at i.setup.bounds c) ≡ None → record { cells = cells'; store = store } ≡ behind old (way room s v n c)
     behind-stop e =
         (λ k. record { cells = pushed k; store = empty k })
-        ∙ sym (ap (behind old) (into_cell ∙ ap (onward (record { inst = n; cell = c })) (up-stop (bound_at i.setup.bounds c) (way (room - 1) s v) e)))
+        ∙ sym (ap (behind old) (into_cell ∙ ap (onward (record { inst = n; cell = c })) (up-stop nowhere (bound_at i.setup.bounds c) (way (room - 1) s v) e)))
 
     -- it goes on behind this cell
     pub behind-go : (b : Subscriber) → above (bound_at i.setup.bounds c) ≡ Some b → behind (record { cells = cells'; store = store }) (way (room - 1) s v b.inst b.cell) ≡ behind old (way room s v n c)
     behind-go b e =
         let w = way (room - 1) s v b.inst b.cell in
         (λ k. record { cells = (ap (λ l. l ++ w.cells) pushed ∙ append_assoc old.cells (record { inst = n; cell = c } ∷ []) w.cells) k; store = w.store })
-        ∙ sym (ap (behind old) (into_cell ∙ ap (onward (record { inst = n; cell = c })) (up-go (bound_at i.setup.bounds c) (way (room - 1) s v) b e)))
+        ∙ sym (ap (behind old) (into_cell ∙ ap (onward (record { inst = n; cell = c })) (up-go nowhere (bound_at i.setup.bounds c) (way (room - 1) s v) b e)))
 
 pub none_of : {A : Type 0} (o : Option A) → is_some o ≡ false → o ≡ None
 none_of None e = refl

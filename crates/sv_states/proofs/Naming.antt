@@ -8,6 +8,7 @@ use Rattle.std.proofs.lemmas.List.Folds.{list_any-append}
 use Rattle.sv_value.specs.Value.{Val, undefined, null, boolean, number, text, list, object, function, store}
 use Rattle.sv_value.specs.Change.{differs}
 use Rattle.sv_numbered.specs.Numbered.{at, altered}
+use Rattle.sv_store.proofs.Counts.{same_from}
 use Rattle.sv_store.specs.Stores.{Store, Subscriber, same_subscriber, subscribers_at, value_at, changed_at, with_subscriber, without_subscriber, is_subscribed, with_value, set_to}
 use Rattle.sv_instance.specs.Cells as cells
 use Rattle.sv_instance.specs.Bound.{Bound}
@@ -27,13 +28,6 @@ use Rattle.sv_states.proofs.Sounding.{sound-written, sound-taken, sound-given, s
 use Rattle.sv_states.proofs.Making.{length-changed, length-left, tally, tally-written, tally-all}
 
 -- ---- subscribers
-
-same_from : (a b : Subscriber) → same_subscriber a b ≡ true → a ≡ b
-same_from a b h =
-    let p = and_parts (nat_eq a.inst b.inst) (nat_eq a.cell b.cell) h in
-    let i = eqb-true a.inst b.inst p.0 in
-    let c = eqb-true a.cell b.cell p.1 in
-    λ k. record { inst = i k; cell = c k }
 
 same_self : (p : Subscriber) → same_subscriber p p ≡ true
 same_self p = rw (eq-eqb p.inst p.inst refl) (eq-eqb p.cell p.cell refl)

@@ -10,8 +10,10 @@ use Rattle.sv_instance.specs.declared.instance.Instance.{Instance}
 use Rattle.sv_instance.specs.declared.subscriptions.Subscription.{Subscription}
 use Rattle.sv_states.specs.States.{States, live, depth_of, is_derived}
 use Rattle.sv_states.specs.Moving.{may_hold}
-use Rattle.sv_states.specs.Refusal.{store_refusal, name_refusal, first_of, up_refusal, held_refusal, into_refusal, refusal_step, refusal, sent_refusal, IsAnswer}
+use Rattle.sv_states.specs.Refusal.{store_refusal, name_refusal, first_of, held_refusal, into_refusal, refusal_step, refusal, sent_refusal, IsAnswer}
+use Rattle.sv_states.specs.Assignment.{up}
 use Rattle.sv_states.specs.Ways.{above}
+use Rattle.sv_states.proofs.Going.{up-stop, up-go}
 use Rattle.sv_states.specs.declared.error.AssignError.{AssignError}
 use Rattle.sv_states.specs.declared.error.AssignError.TheVariants.{ReadOnly, NotAStore, NoMemory}
 
@@ -19,25 +21,9 @@ refusal-suc : (room : ℕ) (s : States) (v : Val) (n c : ℕ) → 0 < room → r
 refusal-suc zero s v n c h = absurd (omega arith)
 refusal-suc (suc room) s v n c h = let e : room ≡ suc room - 1 = omega arith in ap (λ r. refusal_step s v (live s n) c (refusal r s v)) e
 
-up-none : (b : Option Bound) (next : ℕ → ℕ → Option AssignError) → above b ≡ None → up_refusal b next ≡ None
-up-none None next e = refl
-up-none (Some b) next e = cc
-
-up-some : (b : Option Bound) (next : ℕ → ℕ → Option AssignError) (v : Subscriber) → above b ≡ Some v → up_refusal b next ≡ next v.inst v.cell
-up-some None next v e = cc
-up-some (Some b) next v e = ap (λ o. next (inst_or o) (cell_or o)) e
-  where
-    inst_or : Option Subscriber → ℕ
-    inst_or None = 0
-    inst_or (Some x) = x.inst
-
-    cell_or : Option Subscriber → ℕ
-    cell_or None = 0
-    cell_or (Some x) = x.cell
-
 -- at a cell that takes the value
 module _ (room : ℕ) (s : States) (v : Val) (n c : ℕ) (i : Instance) (h : 0 < room) (there : live s n ≡ Some i) (none : subscription_at i.subscriptions c ≡ None) (changes : cells.changes i.cells c v ≡ true) where
-  here : refusal room s v n c ≡ first_of (up_refusal (bound_at i.setup.bounds c) (refusal (room - 1) s v)) (held_refusal (follower_of i.subscriptions c) v)
+  here : refusal room s v n c ≡ first_of (up None (bound_at i.setup.bounds c) (refusal (room - 1) s v)) (held_refusal (follower_of i.subscriptions c) v)
   here =
       refusal-suc room s v n c h
       ∙ ap (λ o. refusal_step s v o c (refusal (room - 1) s v)) there
@@ -45,11 +31,11 @@ module _ (room : ℕ) (s : States) (v : Val) (n c : ℕ) (i : Instance) (h : 0 <
 
   -- where nothing is above it
   pub refused-here : above (bound_at i.setup.bounds c) ≡ None → refusal room s v n c ≡ held_refusal (follower_of i.subscriptions c) v
-  refused-here e = here ∙ ap (λ o. first_of o (held_refusal (follower_of i.subscriptions c) v)) (up-none (bound_at i.setup.bounds c) (refusal (room - 1) s v) e)
+  refused-here e = here ∙ ap (λ o. first_of o (held_refusal (follower_of i.subscriptions c) v)) (up-stop None (bound_at i.setup.bounds c) (refusal (room - 1) s v) e)
 
   -- where what is above it refuses or doesn't
   pub refused-above : (b : Subscriber) (o : Option AssignError) → above (bound_at i.setup.bounds c) ≡ Some b → refusal (room - 1) s v b.inst b.cell ≡ o → refusal room s v n c ≡ first_of o (held_refusal (follower_of i.subscriptions c) v)
-  refused-above b o e is = here ∙ ap (λ x. first_of x (held_refusal (follower_of i.subscriptions c) v)) (up-some (bound_at i.setup.bounds c) (refusal (room - 1) s v) b e ∙ is)
+  refused-above b o e is = here ∙ ap (λ x. first_of x (held_refusal (follower_of i.subscriptions c) v)) (up-go None (bound_at i.setup.bounds c) (refusal (room - 1) s v) b e ∙ is)
 
 -- ---- what speaks against it isn't want of memory
 
@@ -74,13 +60,13 @@ first_is : (o p : Option AssignError) → IsRefusal o → IsRefusal p → IsRefu
 first_is None p h k = k
 first_is (Some e) p h k = h
 
-up_is : (b : Option Bound) (next : ℕ → ℕ → Option AssignError) → ((n c : ℕ) → IsRefusal (next n c)) → IsRefusal (up_refusal b next)
+up_is : (b : Option Bound) (next : ℕ → ℕ → Option AssignError) → ((n c : ℕ) → IsRefusal (next n c)) → IsRefusal (up None b next)
 up_is None next h = tt
 up_is (Some b) next h = h b.owner b.target
 
 into_is : (s : States) (v : Val) (x : Option Subscription) (t : Bool) (f : Option ℕ) (b : Option Bound) (next : ℕ → ℕ → Option AssignError) → ((n c : ℕ) → IsRefusal (next n c)) → IsRefusal (into_refusal s v x t f b next)
 into_is s v (Some x) t f b next h = name_is s x.store
-into_is s v None true f b next h = first_is (up_refusal b next) (held_refusal f v) (up_is b next h) (held_is f v)
+into_is s v None true f b next h = first_is (up None b next) (held_refusal f v) (up_is b next h) (held_is f v)
 into_is s v None false f b next h = tt
 
 step_is : (s : States) (v : Val) (o : Option Instance) (c : ℕ) (next : ℕ → ℕ → Option AssignError) → ((n d : ℕ) → IsRefusal (next n d)) → IsRefusal (refusal_step s v o c next)

@@ -23,15 +23,15 @@ nowhere = record { cells = []; store = None }
 abbrev pub onward : Subscriber → Way → Way
 onward p w = record { cells = p ∷ w.cells; store = w.store }
 
--- on from a cell: to the owner's variable that it is bound to
-abbrev pub up : Option Bound → (ℕ → ℕ → Way) → Way
-up None next = nowhere
-up (Some b) next = next b.owner b.target
+-- on from a cell: what comes at the owner's variable that it is bound to, or this where it is bound to none
+abbrev pub up : {A : Type 0} → A → Option Bound → (ℕ → ℕ → A) → A
+up end None next = end
+up end (Some b) next = next b.owner b.target
 
 -- from a cell: to the store that a `$` name looks at; else into the cell, where that counts as a change, and on
 abbrev pub into : Option Subscription → Bool → Option Bound → Subscriber → (ℕ → ℕ → Way) → Way
 into (Some x) changes b p next = record { cells = []; store = x.store }
-into None true b p next = onward p (up b next)
+into None true b p next = onward p (up nowhere b next)
 into None false b p next = nowhere
 
 abbrev pub way_step : Val → Option Instance → Subscriber → (ℕ → ℕ → Way) → Way

@@ -8,6 +8,7 @@ use Rattle.sv_instance.specs.Subscriptions.{subscription_at, follower_of}
 use Rattle.sv_instance.specs.declared.instance.Instance.{Instance}
 use Rattle.sv_instance.specs.declared.subscriptions.Subscription.{Subscription}
 use Rattle.sv_states.specs.States.{States, live, depth_of, value_in, is_derived}
+use Rattle.sv_states.specs.Assignment.{up}
 use Rattle.sv_states.specs.Moving.{may_hold}
 use Rattle.sv_states.specs.declared.error.AssignError.{AssignError}
 use Rattle.sv_states.specs.declared.error.AssignError.TheVariants.{ReadOnly, NotAStore, NoMemory}
@@ -30,14 +31,9 @@ abbrev pub first_of : Option AssignError → Option AssignError → Option Assig
 first_of None e = e
 first_of (Some e) _ = Some e
 
--- what speaks against it further up
-abbrev pub up_refusal : Option Bound → (ℕ → ℕ → Option AssignError) → Option AssignError
-up_refusal None next = None
-up_refusal (Some b) next = next b.owner b.target
-
 abbrev pub into_refusal : States → Val → Option Subscription → Bool → Option ℕ → Option Bound → (ℕ → ℕ → Option AssignError) → Option AssignError
 into_refusal s v (Some x) changes follower b next = name_refusal s x.store
-into_refusal s v None true follower b next = first_of (up_refusal b next) (held_refusal follower v)
+into_refusal s v None true follower b next = first_of (up None b next) (held_refusal follower v)
 into_refusal s v None false follower b next = None
 
 abbrev pub refusal_step : States → Val → Option Instance → ℕ → (ℕ → ℕ → Option AssignError) → Option AssignError

@@ -5,9 +5,11 @@ use Rattle.std.specs.List.{filter, list_any}
 use Rattle.std.proofs.lemmas.Bool.{cases_Bool, cases_lt, and_parts, eqb-true, or_parts}
 use Rattle.std.proofs.lemmas.List.{length-append, length-map, length-take, length-drop, map-set}
 use Rattle.std.proofs.lemmas.List.Edits.{map_over_more}
-use Rattle.sv_store.proofs.Places.{get_or-map}
+use Rattle.sv_store.proofs.Places.{get_or-map, all_back}
 use Rattle.std.proofs.lemmas.List.Sums.{sum_by-cons, sum_by_push}
 use Rattle.sv_store.specs.Stores.{Subscriber, Store, changed_at, set_to, with_subscriber, same_subscriber, times, is_subscribed, without, without_subscriber, is_other, dropped, IsOnce}
+use Rattle.sv_store.specs.Kept.{stores_of}
+use Rattle.sv_store.specs.declared.stores.Entry.{Entry}
 use Rattle.sv_value.specs.Value.{Val}
 
 -- a sum over stores of which one changed
@@ -56,7 +58,7 @@ times-none sub (s ∷ stores) h =
     let r = times-none sub stores b.1 in
     omega (arith, e, z, r)
 
-same_from : (a b : Subscriber) → same_subscriber a b ≡ true → a ≡ b
+pub same_from : (a b : Subscriber) → same_subscriber a b ≡ true → a ≡ b
 same_from a b h =
     let p = and_parts (nat_eq a.inst b.inst) (nat_eq a.cell b.cell) h in
     let i = eqb-true a.inst b.inst p.0 in
@@ -118,3 +120,7 @@ drop-more f old entries n i d y inside done e =
     let long : i < length old = omega (arith, inside, length-map entries f, ap length done, length-append (dropped (take i old) n) (drop i old), length-map (take i old) (without n), length-take i old, length-drop i old) in
     map-set f entries i y ∙ ap (slice_set (map f entries) i) e
     ∙ map_over_more (without n) old (map f entries) i (f (get_or entries i d)) long done (get_or-map f entries i d (f (get_or entries i d)) inside)
+
+-- the entries that a slice of all leaves behind
+pub once-back : (new now old : List Entry) (n : ℕ) (stores : List Store) → n ≡ length old → length new ≡ length now → now ≡ old → stores_of new ≡ stores → IsOnce stores → IsOnce (stores_of (take n (new ++ drop (length new) old)))
+once-back new now old n stores long kept same is once = subst IsOnce (sym (ap stores_of (all_back new old n long (kept ∙ ap length same)) ∙ is)) once
