@@ -1,64 +1,46 @@
 -- The views that a patch hands down are made of the one on which it walks: with other locals, and of the owner's view.
-use Rattle.std.proofs.Common.{◌≡◌, ℕ, zero, suc, Bool, true, false, List, [], ◌∷◌, ◌++◌, map, length, Option, Some, None, option_map, Result, Ok, Err, is_none, unwrap_or, sym, subst, slice_get, nat_le, ◌||◌, if◌then◌else◌}
+use Rattle.std.proofs.Common.{◌≡◌, ℕ, zero, suc, Bool, true, false, List, [], ◌∷◌, ◌++◌, map, length, Option, Some, None, option_map, Ok, Err, unwrap_or, sym, subst, slice_get, if◌then◌else◌}
 use Rattle.sv_base.specs.declared.names.Name.{Name}
-use Rattle.sv_base.specs.declared.span.Span.{Span}
 use Rattle.sv_code.proofs.Each.{each_append, each_of}
 use Rattle.sv_code.specs.Names.{Each}
 use Rattle.sv_code.specs.declared.fragments.Frag.{Frag, Frag-F, roll-Frag, map-Frag, fold-roll-Frag, ind-Frag}
 use Rattle.sv_code.specs.declared.fragments.FragArm.{FragArm, FragArm-F, roll-FragArm, map-FragArm, fold-FragArm, fold-roll-FragArm}
 use Rattle.sv_code.specs.declared.fragments.FragAttr.{FragAttr}
-use Rattle.sv_code.specs.declared.fragments.FragAttr.TheVariants as attr
-use Rattle.sv_code.specs.declared.fragments.FragValue.{FragValue}
-use Rattle.sv_code.specs.declared.fragments.FragValue.TheVariants as value
-use Rattle.sv_code.specs.declared.fragments.FragValuePart.{FragValuePart}
-use Rattle.sv_code.specs.declared.fragments.FragValuePart.TheVariants as value_part
 use Rattle.sv_code.specs.declared.fragments.LetName.{LetName}
 use Rattle.sv_code.specs.declared.parts.Part.{Part}
 use Rattle.sv_code.specs.declared.program.Program.{Program}
 use Rattle.sv_code.specs.declared.tags.Tag.{Tag}
-use Rattle.sv_meaning.specs.Parts.{part_value}
-use Rattle.sv_ops.specs.Answer.{Answer, Gives, Refuses, spelled}
-use Rattle.sv_ops.specs.Texts.{between}
-use Rattle.sv_ops.specs.declared.faults.Fault.{Fault}
-use Rattle.sv_ops.specs.declared.faults.FaultKind.{FaultKind}
-use Rattle.sv_ops.specs.declared.faults.FaultKind.TheVariants.{NotText, NotAList, BadKey}
-use Rattle.sv_parts.specs.Attributes.{texts_kept, shown_with, shown_step, class_step, shown_parts, shown_value, attr_step, attrs_step}
 use Rattle.sv_parts.specs.Elements.{opening_by, opening_step}
-use Rattle.sv_parts.specs.Parts.{faulted, valued, evaluated, given_text, text_of_part, renewed, text_step, marked, literal_step, show_step}
+use Rattle.sv_parts.specs.Parts.{marked, literal_step, show_step}
 use Rattle.sv_parts.specs.Sides.{Sides, moved}
 use Rattle.sv_parts.specs.State.{Outcome, Run, andThen, numbered, spent, emitted, remembered, destroyed, each, one}
-use Rattle.sv_parts.specs.Tags.{texts_at, passed_name, passed_value, offers_step, create_step, view_for, set_step, keep_step, kept_tag, tag_by, tag_over}
-use Rattle.sv_parts.specs.Values.{unvalued, passed, alone_step, part_text, part_texts, answered, is_due, joined_anew, joined_step, bare, parts_step, value_step}
+use Rattle.sv_parts.specs.Tags.{create_step, view_for, set_step, keep_step, kept_tag, tag_by, tag_over}
 use Rattle.sv_parts.specs.declared.refusal.Refusal.{Refusal}
 use Rattle.sv_parts.specs.declared.state.Effect.{Effect}
 use Rattle.sv_parts.specs.declared.state.Effect.TheVariants as effect
 use Rattle.sv_parts.specs.declared.state.Given.{Given}
 use Rattle.sv_parts.specs.declared.state.Kept.{Kept}
 use Rattle.sv_parts.specs.declared.state.State.{State}
-use Rattle.sv_plan.specs.Blocks.{any_moved, choose, chosen, is_arm, settled_with, settled}
+use Rattle.sv_places.proofs.Changes.{Quiet, Ends}
+use Rattle.sv_places.proofs.Quiet.{IsQuiet, numbered_quiet, spent_quiet, evaluated_quiet, text_step_quiet, offers_quiet, attrs_quiet, chosen_quiet, settled_quiet, row_key_quiet, items_or_quiet, props_quiet}
+use Rattle.sv_plan.specs.Blocks.{is_arm}
 use Rattle.sv_plan.specs.Content.{Content, content_at}
-use Rattle.sv_plan.specs.Lists.{Head, with_index, row_view, key_or, row_key, entries_step, refuse, once, items_in, items_or, listing_of, enumerated, gone, listed_anew, list_step}
+use Rattle.sv_plan.specs.Lists.{Head, with_index, entries_step, refuse, once, items_in, listing_of, enumerated, gone, listed_anew, list_step}
 use Rattle.sv_plan.specs.Patch.{planned, old_view, old_parts}
 use Rattle.sv_plan.specs.Plan.{Planner, Walker, ArmPlan, Filled, plan_each, kept_step, if_step, row_step, none_step, listed_step, each_step, content_step, step, arm_step, body_at, head, planner, walker, slotted, plan_all}
 use Rattle.sv_plan.specs.Rows.{OldRow, old_row, row_sides}
 use Rattle.sv_plan.specs.Rows as rows
-use Rattle.sv_plan.specs.Slots.{prop_named, prop_anew, prop_by, texts_of, props_of, props_step, let_by, with_lets, outer, content_view, content_sides}
+use Rattle.sv_plan.specs.Slots.{prop_named, let_by, with_lets, outer, content_view, content_sides}
 use Rattle.sv_plan.specs.declared.lists.Entry.{Entry}
 use Rattle.sv_plan.specs.declared.lists.Listing.{Listing}
 use Rattle.sv_shapes.specs.Places.{places_all}
 use Rattle.sv_shapes.specs.Shapes.{Opened, opened, element_in, typed_in, states_in, mark_in, text_in, texts_in, place_in, props_in, arm_in, list_in, rows_in, key_in, parts_in}
-use Rattle.sv_shapes.specs.declared.shape.AttrState.{AttrState}
-use Rattle.sv_shapes.specs.declared.shape.AttrState.TheVariants as state
-use Rattle.sv_shapes.specs.declared.shape.KeyState.{KeyState}
 use Rattle.sv_shapes.specs.declared.shape.Row.{Row}
 use Rattle.sv_shapes.specs.declared.shape.Shape.{Shape}
 use Rattle.sv_shapes.specs.declared.shape.Shape.TheVariants as shape
 use Rattle.sv_shapes.specs.declared.shape.SlotProp.{SlotProp}
 use Rattle.sv_shapes.specs.declared.shown.Shown.{Shown}
-use Rattle.sv_value.specs.Change.{differs, truthy}
-use Rattle.sv_value.specs.Key.{key_of}
-use Rattle.sv_value.specs.Value.{Val, undefined}
-use Rattle.sv_value.specs.Words.{text_of}
+use Rattle.sv_value.specs.Value.{Val}
 use Rattle.sv_value.specs.declared.key.Key.{Key}
 use Rattle.sv_view.specs.Level.{View}
 use Rattle.sv_view.specs.Local.{Local}
@@ -131,11 +113,18 @@ module _ {W : View → Type 0} where
 
   -- ---- counters and effects
 
+  -- what adds no effect hands nothing down
+  quiet_hands : {A : Type 0} {m : Run A} → IsQuiet m → HandsOnly W m
+  quiet_hands {m = m} k = record { held = λ s h. by s (m s) (k.held s) h } where
+    by : {A : Type 0} (s : State) (o : Outcome A) → Ends (λ _ t. Quiet s t) o → Each (Hands W) s.effects → Handed W o
+    by s (Ok x) q h = subst (Each (Hands W)) (sym q.effects) h
+    by s (Err r) q h = tt
+
   numbered_hands : HandsOnly W numbered
-  numbered_hands = record { held = λ s h. h }
+  numbered_hands = quiet_hands numbered_quiet
 
   spent_hands : (n : ℕ) → HandsOnly W (spent n)
-  spent_hands n = record { held = λ s h. if_handed W (nat_le n s.counters.work) _ _ h tt }
+  spent_hands n = quiet_hands (spent_quiet n)
 
   emitted_hands : (e : Effect) → Hands W e → HandsOnly W (emitted e)
   emitted_hands e d = record { held = λ s h. each_append (Hands W) s.effects (e ∷ []) h (d, tt) }
@@ -148,30 +137,6 @@ module _ {W : View → Type 0} where
 
   -- ---- parts
 
-  faulted_hands : {A : Type 0} (kind : FaultKind) (part : Part) → HandsOnly W {A = A} (λ s. faulted kind part)
-  faulted_hands kind part = record { held = λ s h. tt }
-
-  valued_hands : (r : Result Val Fault) → HandsOnly W (valued r)
-  valued_hands (Ok v) = record { held = λ s h. h }
-  valued_hands (Err fault) = record { held = λ s h. tt }
-
-  evaluated_hands : (p : Program) (part : Part) (at : Sides) → HandsOnly W (evaluated p part at)
-  evaluated_hands p part at = valued_hands (part_value p at.new part)
-
-  given_text_hands : (part : Part) (o : Option (List ℕ)) → HandsOnly W (given_text part o)
-  given_text_hands part None = faulted_hands NotText part
-  given_text_hands part (Some text) = ok_hands text
-
-  text_of_hands : (p : Program) (part : Part) (at : Sides) → HandsOnly W (text_of_part p part at)
-  text_of_hands p part at = then_hands (evaluated_hands p part at) (λ v. given_text_hands part (text_of v))
-
-  renewed_hands : {A : Type 0} (part : Part) {anew : Run A} (old : Option A) (at : Sides) → HandsOnly W anew → HandsOnly W (renewed part anew old at)
-  renewed_hands part None at k = k
-  renewed_hands part (Some old) at k = cond_hands (moved part.reads at) k (ok_hands old)
-
-  text_step_hands : (p : Program) (part : Part) (old : Option (List ℕ)) (at : Sides) → HandsOnly W (text_step p part old at)
-  text_step_hands p part old at = renewed_hands part old at (text_of_hands p part at)
-
   marked_hands : (old : Option ℕ) → HandsOnly W (marked old)
   marked_hands None = numbered_hands
   marked_hands (Some mark) = ok_hands mark
@@ -180,48 +145,9 @@ module _ {W : View → Type 0} where
   literal_hands old = then_hands (marked_hands old) (λ mark. ok_hands (shape.Literal mark))
 
   show_hands : (p : Program) (part : Part) (at : Sides) (old : Opened) → HandsOnly W (show_step p part at old)
-  show_hands p part at old = then_hands (text_step_hands p part (text_in old) at) (λ text. then_hands (marked_hands (mark_in old)) (λ mark. ok_hands (shape.Text mark text)))
-
-  -- ---- values of attributes
-
-  alone_hands : (p : Program) (part : Part) (is_new : Bool) (at : Sides) → HandsOnly W (alone_step p part is_new at)
-  alone_hands p part is_new at = cond_hands (is_new || moved part.reads at) (then_hands (evaluated_hands p part at) (λ v. ok_hands (passed v))) (ok_hands unvalued)
-
-  part_text_hands : (p : Program) (at : Sides) (x : FragValuePart) (old : Option (List ℕ)) → HandsOnly W (part_text p at x old)
-  part_text_hands p at (value_part.Text text) old = ok_hands text
-  part_text_hands p at (value_part.Show part) old = text_step_hands p part old at
-
-  part_texts_hand : (p : Program) (at : Sides) (olds : List (List ℕ)) (parts : List FragValuePart) → HandsOnly W (part_texts p at olds parts)
-  part_texts_hand p at olds parts = each_hands 0 parts (λ x i. one_hands (part_text_hands p at x (slice_get olds i)))
-
-  answered_hands : (span : Span) (a : Answer) → HandsOnly W (answered span a)
-  answered_hands span (Gives cost v) = ok_hands v
-  answered_hands span (Refuses kind) = record { held = λ s h. tt }
-
-  joined_anew_hands : (p : Program) (span : Span) (parts : List FragValuePart) (olds : List (List ℕ)) (at : Sides) → HandsOnly W (joined_anew p span parts olds at)
-  joined_anew_hands p span parts olds at = then_hands (part_texts_hand p at olds parts) (λ texts. then_hands (answered_hands span (spelled 0 (between [] texts))) (λ whole. ok_hands (record { texts = texts; value = Some whole })))
-
-  joined_hands : (p : Program) (span : Span) (parts : List FragValuePart) (olds : List (List ℕ)) (wanted : Bool) (at : Sides) → HandsOnly W (joined_step p span parts olds wanted at)
-  joined_hands p span parts olds wanted at = cond_hands (wanted || is_due at olds parts) (joined_anew_hands p span parts olds at) (ok_hands (record { texts = olds; value = None }))
-
-  parts_hand : (p : Program) (span : Span) (parts : List FragValuePart) (o : Option Part) (olds : List (List ℕ)) (is_new : Bool) (at : Sides) → HandsOnly W (parts_step p span parts o olds is_new at)
-  parts_hand p span parts None olds is_new at = joined_hands p span parts olds is_new at
-  parts_hand p span parts (Some part) olds is_new at = alone_hands p part is_new at
-
-  value_hands : (p : Program) (span : Span) (v : FragValue) (olds : List (List ℕ)) (is_new : Bool) (at : Sides) → HandsOnly W (value_step p span v olds is_new at)
-  value_hands p span value.Bare olds is_new at = ok_hands (bare is_new)
-  value_hands p span (value.Parts parts) olds is_new at = parts_hand p span parts _ olds is_new at
-
-  passed_hands : (p : Program) (a : FragAttr) (olds : List (List ℕ)) (is_new : Bool) (at : Sides) → HandsOnly W (passed_value p a olds is_new at)
-  passed_hands p (attr.Plain span name v) olds is_new at = value_hands p span v olds is_new at
-  passed_hands p (attr.On handler reads) olds is_new at = ok_hands unvalued
-  passed_hands p (attr.Bind span name part) olds is_new at = alone_hands p part is_new at
-  passed_hands p (attr.Class span name part) olds is_new at = ok_hands unvalued
+  show_hands p part at old = then_hands (quiet_hands (text_step_quiet p part (text_in old) at)) (λ text. then_hands (marked_hands (mark_in old)) (λ mark. ok_hands (shape.Text mark text)))
 
   -- ---- tags
-
-  offers_hand : (p : Program) (attrs : List FragAttr) (texts : List (List (List ℕ))) (is_new : Bool) (at : Sides) → HandsOnly W (offers_step p attrs texts is_new at)
-  offers_hand p attrs texts is_new at = each_hands 0 attrs (λ a i. one_hands (then_hands (passed_hands p a (texts_at texts i) is_new at) (λ v. ok_hands _)))
 
   create_hands : (k : ℕ) (props : List Given) (texts : List (List (List ℕ))) (at : Sides) → W at.new → HandsOnly W (create_step k props texts at)
   create_hands k props texts at h = then_hands numbered_hands (λ place. then_hands (emitted_hands (effect.Create place k props at.new) h) (λ _. ok_hands (shape.Tag place texts)))
@@ -235,10 +161,10 @@ module _ {W : View → Type 0} where
   keep_hands place props view at h = then_hands (set_hands place props view h) (λ _. remembered_hands (record { place = place; locals = at.new.own.locals }))
 
   kept_tag_hands : (p : Program) (t : Tag) (place : ℕ) (texts : List (List (List ℕ))) (at : Sides) → W at.new → HandsOnly W (kept_tag p t place texts at)
-  kept_tag_hands p t place texts at h = then_hands (offers_hand p t.attrs texts false at) (λ offers. then_hands (keep_hands place _ (view_for p t at) at (view_hands W _ at.new h)) (λ _. ok_hands _))
+  kept_tag_hands p t place texts at h = then_hands (quiet_hands (offers_quiet p t.attrs texts false at)) (λ offers. then_hands (keep_hands place _ (view_for p t at) at (view_hands W _ at.new h)) (λ _. ok_hands _))
 
   tag_by_hands : (p : Program) (k : ℕ) (t : Tag) (old : Option ℕ) (texts : List (List (List ℕ))) (at : Sides) → W at.new → HandsOnly W (tag_by p k t old texts at)
-  tag_by_hands p k t None texts at h = then_hands (offers_hand p t.attrs [] true at) (λ offers. create_hands k _ _ at h)
+  tag_by_hands p k t None texts at h = then_hands (quiet_hands (offers_quiet p t.attrs [] true at)) (λ offers. create_hands k _ _ at h)
   tag_by_hands p k t (Some place) texts at h = kept_tag_hands p t place texts at h
 
   tag_over_hands : (p : Program) (k : ℕ) (o : Option Tag) (old : Option ℕ) (texts : List (List (List ℕ))) (at : Sides) → W at.new → HandsOnly W (tag_over p k o old texts at)
@@ -247,67 +173,16 @@ module _ {W : View → Type 0} where
 
   -- ---- elements
 
-  shown_with_hands : (p : Program) (name : Name) (part : Part) (v : Val) → HandsOnly W (shown_with p name part v)
-  shown_with_hands p name part v = cond_hands _ (ok_hands _) (faulted_hands NotText part)
-
-  shown_hands : (p : Program) (name : Name) (part : Part) (old : Option AttrState) (at : Sides) → HandsOnly W (shown_step p name part old at)
-  shown_hands p name part old at = renewed_hands part old at (then_hands (evaluated_hands p part at) (shown_with_hands p name part))
-
-  class_hands : (p : Program) (part : Part) (old : Option AttrState) (at : Sides) → HandsOnly W (class_step p part old at)
-  class_hands p part old at = renewed_hands part old at (then_hands (evaluated_hands p part at) (λ v. ok_hands (state.Holds (truthy v))))
-
-  shown_parts_hand : (p : Program) (span : Span) (name : Name) (parts : List FragValuePart) (o : Option Part) (old : Option AttrState) (at : Sides) → HandsOnly W (shown_parts p span name parts o old at)
-  shown_parts_hand p span name parts None old at = cond_hands _ (ok_hands state.Written) (then_hands (joined_hands p span parts (texts_kept old) false at) (λ v. ok_hands (state.Texts v.texts)))
-  shown_parts_hand p span name parts (Some part) old at = shown_hands p name part old at
-
-  shown_value_hands : (p : Program) (span : Span) (name : Name) (v : FragValue) (old : Option AttrState) (at : Sides) → HandsOnly W (shown_value p span name v old at)
-  shown_value_hands p span name value.Bare old at = ok_hands state.Written
-  shown_value_hands p span name (value.Parts parts) old at = shown_parts_hand p span name parts _ old at
-
-  attr_hands : (p : Program) (a : FragAttr) (old : Option AttrState) (at : Sides) → HandsOnly W (attr_step p a old at)
-  attr_hands p (attr.Plain span name v) old at = shown_value_hands p span name v old at
-  attr_hands p (attr.On handler reads) old at = ok_hands state.Written
-  attr_hands p (attr.Bind span name part) old at = shown_hands p name part old at
-  attr_hands p (attr.Class span name part) old at = class_hands p part old at
-
-  attrs_hand : (p : Program) (attrs : List FragAttr) (olds : List AttrState) (at : Sides) → HandsOnly W (attrs_step p attrs olds at)
-  attrs_hand p attrs olds at = each_hands 0 attrs (λ a i. one_hands (attr_hands p a (slice_get olds i) at))
-
   opening_hands : (p : Program) (attrs : List FragAttr) (at : Sides) (old : Opened) → HandsOnly W (opening_step p attrs at old)
   opening_hands p attrs at old = by (element_in old) where
     by : (mark : Option ℕ) → HandsOnly W (opening_by p attrs mark (typed_in old) (states_in old) at)
-    by None = then_hands numbered_hands (λ mark. then_hands (attrs_hand p attrs [] at) (λ states. ok_hands _))
-    by (Some mark) = then_hands (attrs_hand p attrs (states_in old) at) (λ states. ok_hands _)
-
-  -- ---- if blocks and key blocks
-
-  choose_hands : (p : Program) (ts : List Part) (i : ℕ) (at : Sides) → HandsOnly W (choose p ts i at)
-  choose_hands p [] i at = ok_hands i
-  choose_hands p (t ∷ ts) i at = then_hands (evaluated_hands p t at) (λ v. cond_hands (truthy v) (ok_hands i) (choose_hands p ts (suc i) at))
-
-  chosen_hands : (p : Program) (ts : List Part) (old : Option ℕ) (at : Sides) → HandsOnly W (chosen p ts old at)
-  chosen_hands p ts None at = choose_hands p ts 0 at
-  chosen_hands p ts (Some arm) at = cond_hands (any_moved ts at) (choose_hands p ts 0 at) (ok_hands arm)
-
-  settled_with_hands : (old : KeyState) (v : Val) → HandsOnly W (settled_with old v)
-  settled_with_hands old v = cond_hands (differs old.value v) (then_hands numbered_hands (λ n. ok_hands _)) (ok_hands _)
-
-  settled_hands : (p : Program) (part : Part) (old : Option KeyState) (at : Sides) → HandsOnly W (settled p part old at)
-  settled_hands p part None at = then_hands (evaluated_hands p part at) (λ v. then_hands numbered_hands (λ n. ok_hands _))
-  settled_hands p part (Some old) at = cond_hands (moved part.reads at) (then_hands (evaluated_hands p part at) (settled_with_hands old)) (ok_hands _)
+    by None = then_hands numbered_hands (λ mark. then_hands (quiet_hands (attrs_quiet p attrs [] at)) (λ states. ok_hands _))
+    by (Some mark) = then_hands (quiet_hands (attrs_quiet p attrs (states_in old) at)) (λ states. ok_hands _)
 
   -- ---- each blocks
 
-  key_or_hands : (part : Part) (o : Option Key) → HandsOnly W (key_or part o)
-  key_or_hands part None = faulted_hands BadKey part
-  key_or_hands part (Some key) = ok_hands key
-
-  row_key_hands : (p : Program) (h : Head) (key : Option Part) (at : Sides) (n i : ℕ) (item : Val) → HandsOnly W (row_key p h key at n i item)
-  row_key_hands p h None at n i item = ok_hands _
-  row_key_hands p h (Some part) at n i item = then_hands (evaluated_hands p part (record at { new = row_view h n i item at.new })) (λ v. key_or_hands part (key_of v))
-
   entries_hand : (p : Program) (h : Head) (at : Sides) (n : ℕ) (vs : List Val) → HandsOnly W (entries_step p h at n vs)
-  entries_hand p h at n vs = each_hands 0 vs (λ item i. one_hands (then_hands (row_key_hands p h h.key at n i item) (λ key. ok_hands (record { key = key; item = item }))))
+  entries_hand p h at n vs = each_hands 0 vs (λ item i. one_hands (then_hands (quiet_hands (row_key_quiet p h h.key at n i item)) (λ key. ok_hands (record { key = key; item = item }))))
 
   refuse_hands : (part : Part) (o : Option Key) → HandsOnly W (refuse part o)
   refuse_hands part None = ok_hands tt
@@ -317,16 +192,12 @@ module _ {W : View → Type 0} where
   once_hands None entries = ok_hands tt
   once_hands (Some part) entries = refuse_hands part _
 
-  items_or_hands : (part : Part) (o : Option (List Val)) → HandsOnly W (items_or part o)
-  items_or_hands part None = faulted_hands NotAList part
-  items_or_hands part (Some vs) = ok_hands vs
-
   listing_hands : (p : Program) (h : Head) (at : Sides) (vs : List Val) → HandsOnly W (listing_of p h at vs)
   listing_hands p h at vs =
       then_hands (spent_hands (length vs)) (λ _. then_hands numbered_hands (λ n. then_hands (entries_hand p h at n vs) (λ entries. then_hands (once_hands h.key entries) (λ _. ok_hands (record { number = n; entries = entries })))))
 
   enumerated_hands : (p : Program) (h : Head) (at : Sides) → HandsOnly W (enumerated p h at)
-  enumerated_hands p h at = then_hands (evaluated_hands p h.list at) (λ v. then_hands (items_or_hands h.list (items_in v)) (listing_hands p h at))
+  enumerated_hands p h at = then_hands (quiet_hands (evaluated_quiet p h.list at)) (λ v. then_hands (quiet_hands (items_or_quiet h.list (items_in v))) (listing_hands p h at))
 
   anew_hands : (p : Program) (h : Head) (at : Sides) (olds : List Row) (none : List Shape) → HandsOnly W (listed_anew p h at olds none)
   anew_hands p h at olds none = then_hands (enumerated_hands p h at) (λ x. then_hands (destroyed_hands (gone x.entries olds none)) (λ _. ok_hands x))
@@ -334,25 +205,6 @@ module _ {W : View → Type 0} where
   list_hands : (p : Program) (h : Head) (at : Sides) (old : Option ℕ) (olds : List Row) (none : List Shape) → HandsOnly W (list_step p h at old olds none)
   list_hands p h at None olds none = anew_hands p h at olds none
   list_hands p h at (Some n) olds none = cond_hands (moved h.list.reads at) (anew_hands p h at olds none) (ok_hands _)
-
-  -- ---- props of slots
-
-  prop_anew_hands : (name : Name) (texts : List (List ℕ)) (v : Val) → HandsOnly W (prop_anew name texts v)
-  prop_anew_hands name texts v = then_hands numbered_hands (λ n. ok_hands _)
-
-  prop_by_hands : (name : Name) (old : Option SlotProp) (texts : List (List ℕ)) (v : Option Val) → HandsOnly W (prop_by name old texts v)
-  prop_by_hands name (Some old) texts None = ok_hands old
-  prop_by_hands name (Some old) texts (Some v) = prop_anew_hands name texts v
-  prop_by_hands name None texts None = prop_anew_hands name texts undefined
-  prop_by_hands name None texts (Some v) = prop_anew_hands name texts v
-
-  props_of_hands : (p : Program) (a : FragAttr) (name : Option Name) (olds : List SlotProp) (at : Sides) → HandsOnly W (props_of p a name olds at)
-  props_of_hands p a None olds at = ok_hands []
-  props_of_hands p a (Some name) olds at =
-      one_hands (then_hands (passed_hands p a (texts_of (prop_named name olds)) (is_none (prop_named name olds)) at) (λ v. prop_by_hands name (prop_named name olds) v.texts v.value))
-
-  props_hand : (p : Program) (attrs : List FragAttr) (olds : List SlotProp) (at : Sides) → HandsOnly W (props_step p attrs olds at)
-  props_hand p attrs olds at = each_hands 0 attrs (λ a i. props_of_hands p a (passed_name a) olds at)
 
 module _ (W : View → Type 0) where
   -- ---- walks
@@ -398,7 +250,7 @@ module _ (W : View → Type 0) where
 
   if_hands : (p : Program) (arms : List ArmPlan) (last : Option (List Planner)) → Each ArmHands arms → LastHands last → (at : Sides) (old : Opened) → W at.new → HandsOnly W (if_step p (map (λ a. a.0) arms) (λ i. plan_each (body_at arms last i)) at old)
   if_hands p arms last q r at old w =
-      then_hands (chosen_hands p (map (λ a. a.0) arms) (arm_in old) at) (λ arm. then_hands (kept_hands (walk_hands (body_at arms last arm) (body_hands arms last arm q r)) at (is_arm (arm_in old) arm) (parts_in old) w) (λ parts. ok_hands _))
+      then_hands (quiet_hands (chosen_quiet p (map (λ a. a.0) arms) (arm_in old) at)) (λ arm. then_hands (kept_hands (walk_hands (body_at arms last arm) (body_hands arms last arm q r)) at (is_arm (arm_in old) arm) (parts_in old) w) (λ parts. ok_hands _))
 
   module _ (passes : Passes W) where
     row_handed : (index : Option Name) (n i : ℕ) (v : View) → W v → W (with_index index n i v)
@@ -479,13 +331,13 @@ module _ (W : View → Type 0) where
       frag_hands (Frag-F.Tag tag reads) at old w = tag_over_hands p tag (slice_get p.tags tag) (place_in (opened old)) (texts_in (opened old)) at w
       frag_hands (Frag-F.Named name lets node) at old w = ok_hands shape.Nothing
       frag_hands (Frag-F.Slot span name attrs own reads) at old w =
-          then_hands (props_hand p attrs (props_in (opened old)) at) (λ props. then_hands (content_hands (slot name) (filled name) (walk_hands _ (frags_hand own)) at (props_in (opened old)) props (parts_in (opened old)) w) (λ parts. ok_hands _))
+          then_hands (quiet_hands (props_quiet p attrs (props_in (opened old)) at)) (λ props. then_hands (content_hands (slot name) (filled name) (walk_hands _ (frags_hand own)) at (props_in (opened old)) props (parts_in (opened old)) w) (λ parts. ok_hands _))
       frag_hands (Frag-F.If arms None) at old w = if_hands p _ None (arms_hand arms) tt at (opened old) w
       frag_hands (Frag-F.If arms (Some last)) at old w = if_hands p _ (Some (map plan_of (map (λ x. x.0) last))) (arms_hand arms) (frags_hand last) at (opened old) w
       frag_hands (Frag-F.Each list item index key body None) at old w = each_block_hands p (head list item index key) (walk_hands _ (frags_hand body)) (walk_hands [] tt) at (opened old) w
       frag_hands (Frag-F.Each list item index key body (Some none)) at old w = each_block_hands p (head list item index key) (walk_hands _ (frags_hand body)) (walk_hands _ (frags_hand none)) at (opened old) w
       frag_hands (Frag-F.Key part body) at old w =
-          then_hands (settled_hands p part (key_in (opened old)) at) (λ k. then_hands (kept_hands (walk_hands _ (frags_hand body)) at k.kept (parts_in (opened old)) w) (λ parts. ok_hands _))
+          then_hands (quiet_hands (settled_quiet p part (key_in (opened old)) at)) (λ k. then_hands (kept_hands (walk_hands _ (frags_hand body)) at k.kept (parts_in (opened old)) w) (λ parts. ok_hands _))
 
       frag_whole : (x : Frag-F Frag FragArm) (y : Frag-F KnownFrag KnownArm) → bare_frag y ≡ x → FragHands (roll-Frag x)
       frag_whole x y e = subst PlannerHands (sym (fold-roll-Frag Planner ArmPlan (step p slot) arm_step x)) (subst (λ z. PlannerHands (step p slot (made_frag z))) e (frag_hands y))

@@ -5,6 +5,7 @@ use Rattle.std.specs.Map.{remove_entry}
 use Rattle.std.specs.Ordering.{nat_cmp}
 use Rattle.std.proofs.lemmas.List.{map-append, map-set}
 use Rattle.std.proofs.lemmas.Option.{none-some, same_Some}
+use Rattle.sv_code.specs.declared.program.Program.{Program}
 use Rattle.sv_flush.proofs.Agreeing.{agree-fewer, agree-more, agree-set, agree-added}
 use Rattle.sv_flush.proofs.Holding.{lent-set, lent-added, shown-left, shown-put}
 use Rattle.sv_flush.proofs.Lasting.{IsOf, Lasting}
@@ -14,7 +15,7 @@ use Rattle.sv_flush.proofs.Tracking.{GoesBy, goes_stays, goes-bound, goes-handed
 use Rattle.sv_flush.specs.Lent.{StandsIn, IsShownOn, IsLent, StandsHeld, IsHeld, ArePast, LevelsAgree, HoldsPast}
 use Rattle.sv_flush.specs.declared.page.Page.{Page}
 use Rattle.sv_frame.proofs.Altering.{pictures-altered, pictures-viewed, plain_view, view_of, snapshots-viewed}
-use Rattle.sv_frame.proofs.Outcomes.{Stays}
+use Rattle.sv_frame.proofs.Outcomes.{at_ends, Stays}
 use Rattle.sv_frame.specs.Snapshots.{snapshot_of, snapshots}
 use Rattle.sv_frame.specs.Views.{lent_views}
 use Rattle.sv_instance.specs.Cells.{present}
@@ -67,8 +68,8 @@ module _ (due : List Level) (shown : List (ℕ × Shown)) where
   }
 
   -- whatever scripts do
-  pub lends_stay : Stays (Lends due shown)
-  lends_stay = goes_stays lends_go
+  pub lends_stay : (p : Program) → Stays p (at_ends (Lends due shown))
+  lends_stay p = goes_stays lends_go p
 
   -- ---- a view is lent
 
@@ -202,11 +203,11 @@ lends-fewer more due shown s h = record {
 
 -- ---- whatever a flush does
 
-pub lends_last : Lasting (λ but due. Lends due) Shot
-lends_last = record {
-  scripts = λ but due shown. lends_stay due shown;
-  binds = λ due shown s n b h. goes-bound (lends_go due shown) s n b h;
-  hands = λ but due shown s p v h. goes-handed (lends_go due shown) s p v h;
+pub lends_last : (p : Program) → Lasting p (λ but due. Lends due) Shot
+lends_last p = record {
+  scripts = λ but due shown. lends_stay due shown p;
+  binds = λ due shown w n b may h. goes-bound (lends_go due shown) p w n b h;
+  hands = λ but due shown s at v h. goes-handed (lends_go due shown) s at v h;
   lends = λ but due shown s n c view d h. lends-viewed due shown s n c view d h;
   spends = lends-fewer;
   makes = λ due shown s place cells constants h. lends-added due shown s _ (new-born place cells constants) refl h;

@@ -6,7 +6,6 @@ pub mod Queue
 pub mod Entries
 pub mod Tags
 pub mod Creating
-pub mod Lookups
 pub mod Bringing
 pub mod Settling
 pub mod Recording
@@ -22,3 +21,4 @@ pub mod Lending
 pub mod Presenting
 pub mod Blank
 pub mod Knowing
+pub mod Derived

@@ -13,20 +13,22 @@ use Rattle.sv_flush.proofs.Standing.{stands-front, of_pass, hands-mono}
 use Rattle.sv_flush.specs.Callbacks.{callbacks_of, nowhere, called_back, all_called_back, returned, mounted_by, all_mounted, called_if, unless, after}
 use Rattle.sv_flush.specs.Creation.{next, too_deep, snapshot, readied, after_waits, cell_count, Site, born_at, born_here, is_too_deep, made_of, made, mount_waits, started, passed, binds, placed, attached, site_of, grown, tag_task, child_set, effect_by, created_in, effects, root_site, mounted}
 use Rattle.sv_flush.specs.Destruction.{gone, taken, child_task, destroyed_by, children_destroyed, destroyed}
-use Rattle.sv_flush.specs.Flush.{updated, bound_at, bound, all_bound, rendered_one, round, flush_ended, flushed}
+use Rattle.sv_flush.specs.Flush.{updated, bound, all_bound, rendered_one, round, flush_ended, flushed}
 use Rattle.sv_flush.specs.Outcome.{Outcome, Done, Halted, Task, and_then, in_world, ended, scripted, work, work_if, each}
 use Rattle.sv_flush.specs.Rounds.{Binding, Waiting, mounting, after_update, has_run, with_ran, waiting_callbacks}
 use Rattle.sv_flush.specs.Setting.{stays, prop_of, handed, prop_set, set, lent_to, lent_if}
 use Rattle.sv_flush.specs.Showing.{tags_of, tag_shown, tag_kept, tags_kept, followed, patched_on, patched_now, shown}
 use Rattle.sv_flush.specs.declared.page.Page.{Page}
-use Rattle.sv_frame.proofs.Outcomes.{Stays, Leaves, Left, if_left, unless_left, then_leaves, ends_leaves}
-use Rattle.sv_frame.proofs.Running.{modules_leave, top_leaves, reactive_leaves, called_leaves, in_turn_leaves, settle_leaves}
+use Rattle.sv_frame.proofs.Outcomes.{Fact, at_ends, MaySet, Stays, Leaves, Left, if_left, unless_left, then_leaves, ends_leaves}
+use Rattle.sv_frame.proofs.Running.{modules_leave, top_leaves, reactive_leaves, called_leaves, in_turn_leaves}
 use Rattle.sv_instance.specs.Callbacks.{with_callback}
 use Rattle.sv_instance.specs.declared.callbacks.When.{When}
 use Rattle.sv_instance.specs.declared.callbacks.When.TheVariants.{Mount, Before, After, Destroy, Returned}
 use Rattle.sv_instance.specs.declared.instance.Instance.{Instance}
 use Rattle.sv_meaning.specs.Components.{component_at, component_of, markup_of}
-use Rattle.sv_meaning.specs.Outcome.{Ending, Ends, Fails, Deed}
+use Rattle.sv_meaning.specs.Outcome.{Ending, Ends, Fails, Deed, then_do}
+use Rattle.sv_meaning.specs.Refused.{unless as refused}
+use Rattle.sv_meaning.specs.Runs.{settle}
 use Rattle.sv_parts.specs.State.{Outcome as Planned}
 use Rattle.sv_parts.specs.declared.state.Effect.{Effect}
 use Rattle.sv_parts.specs.declared.state.Effect.TheVariants as effect
@@ -36,9 +38,12 @@ use Rattle.sv_plan.specs.Patch.{begun, ended as patch_ended, patched}
 use Rattle.sv_shapes.specs.Showing.{Showing, recorded as shown_on, shown_of, child_at}
 use Rattle.sv_shapes.specs.declared.shape.Shape.{Shape}
 use Rattle.sv_shapes.specs.declared.shown.Shown.{Shown}
+use Rattle.sv_states.specs.Assignment.{bound_up}
 use Rattle.sv_states.specs.Change.{place_below}
 use Rattle.sv_states.specs.Refusal.{hand_refusal, bind_refusal}
 use Rattle.sv_states.specs.States.{States, live}
+use Rattle.sv_states.specs.declared.error.AssignError.{AssignError}
+use Rattle.sv_states.specs.declared.error.AssignError.TheVariants.{ReadOnly, NotAStore, NoMemory}
 use Rattle.sv_states.specs.declared.states.TheConstants.{DEPTH_LIMIT}
 use Rattle.sv_value.specs.Value.{Val, undefined, null, boolean, number, text, list, object, function, store}
 use Rattle.sv_view.specs.Level.{Level, View}
@@ -46,9 +51,9 @@ use Rattle.sv_view.specs.View.{levels}
 use Rattle.sv_world.specs.World.{present_view}
 use Rattle.sv_world.specs.declared.world.World.{World}
 
-module _ {P : States → Type 0} (stay : Stays P) (p : Program) where
+module _ {p : Program} {P : Fact} (stay : Stays p P) where
   back_leaves : (v : Val) → Leaves P (called_back p v)
-  back_leaves v = then_leaves (called_leaves stay p v [] nowhere) (λ u. ends_leaves tt)
+  back_leaves v = then_leaves (called_leaves stay v [] nowhere) (λ u. ends_leaves tt)
 
   all_back_leave : (n : ℕ) (when : When) → Leaves P (all_called_back p n when)
   all_back_leave n when = record { held = λ w h. (in_turn_leaves stay (called_back p) (callbacks_of w n when) back_leaves).held w h }
@@ -66,7 +71,7 @@ module _ {P : States → Type 0} (stay : Stays P) (p : Program) where
 
   all_mounted_leave : (n : ℕ) → Leaves P (all_mounted p n)
   all_mounted_leave n =
-      record { held = λ w h. (in_turn_leaves stay (mounted_by p n) (callbacks_of w n Mount) (λ v. then_leaves (called_leaves stay p v [] nowhere) (returned_leaves n))).held w h }
+      record { held = λ w h. (in_turn_leaves stay (mounted_by p n) (callbacks_of w n Mount) (λ v. then_leaves (called_leaves stay v [] nowhere) (returned_leaves n))).held w h }
 
   called_if_leaves : (o : Option Val) → Leaves P (called_if p o)
   called_if_leaves None = ends_leaves tt
@@ -76,13 +81,16 @@ module _ {P : States → Type 0} (stay : Stays P) (p : Program) where
   unless_leaves true k = ends_leaves tt
   unless_leaves false k = k
 
+abbrev now_bound : Binding → Deed (Unit {0})
+now_bound b w = Ends tt (record w { states = bound_up w.states b.child b.bound })
+
 only : {Q R : Page → Type 0} {t : Task} → Brings Q (λ u. Q u × R u) t → Brings Q Q t
 only {Q = Q} {R = R} {t = t} k = record { held = λ m h. weaker (t m) (k.held m h) } where
   weaker : (o : Outcome (Unit {0})) → Afterwards (λ u. Q u × R u) o → Afterwards Q o
   weaker (Done a m) h = h.0
   weaker (Halted r m) h = tt
 
-module _ {P : Option ℕ → List Level → List (ℕ × Shown) → States → Type 0} {Q : ℕ → List Level → List (ℕ × Shown) → States → Type 0} (lasts : Lasting P Q) (p : Program) where
+module _ {p : Program} {P : Option ℕ → List Level → List (ℕ × Shown) → States → Type 0} {Q : ℕ → List Level → List (ℕ × Shown) → States → Type 0} (lasts : Lasting p P Q) where
   -- so it is on a page
   abbrev On : Option ℕ → List Level → Page → Type 0
   On but due m = P but due m.showing.shown m.world.states
@@ -91,7 +99,7 @@ module _ {P : Option ℕ → List Level → List (ℕ × Shown) → States → T
   abbrev Snapped : ℕ → List Level → Page → Type 0
   Snapped n due m = Q n due m.showing.shown m.world.states
 
-  ended_on : (but : Option ℕ) (due : List Level) (m : Page) (e : Ending (Unit {0})) → Left (P but due m.showing.shown) e → Afterwards (On but due) (ended m e)
+  ended_on : (but : Option ℕ) (due : List Level) (m : Page) (e : Ending (Unit {0})) → Left (at_ends (P but due m.showing.shown)) e → Afterwards (On but due) (ended m e)
   ended_on but due m (Ends a w) h = h
   ended_on but due m (Fails k s w) h = tt
 
@@ -101,26 +109,26 @@ module _ {P : Option ℕ → List Level → List (ℕ × Shown) → States → T
 
     -- ---- scripts and callbacks
 
-    scripted_brings : {deed : Deed (Unit {0})} → ((shown : List (ℕ × Shown)) → Leaves (P but due shown) deed) → Brings (On but due) (On but due) (scripted deed)
+    scripted_brings : {deed : Deed (Unit {0})} → ((shown : List (ℕ × Shown)) → Leaves (at_ends (P but due shown)) deed) → Brings (On but due) (On but due) (scripted deed)
     scripted_brings {deed = deed} k = record { held = λ m h. ended_on but due m (deed m.world) ((k m.showing.shown).held m.world h) }
 
     after_brings : (n at : ℕ) → Brings (On but due) (On but due) (after p n at)
     after_brings n at = record {
       held = λ m h. (scripted_brings {deed = unless (has_run m.rounds n at) (λ w. called_if p (slice_get (callbacks_of w n After) at) w)}
-          (λ shown. unless_leaves (lasts.scripts but due shown) p (has_run m.rounds n at) (record { held = λ w k. (called_if_leaves (lasts.scripts but due shown) p (slice_get (callbacks_of w n After) at)).held w k }))).held
+          (λ shown. unless_leaves (lasts.scripts but due shown) (has_run m.rounds n at) (record { held = λ w k. (called_if_leaves (lasts.scripts but due shown) (slice_get (callbacks_of w n After) at)).held w k }))).held
           (record m { rounds = with_ran m.rounds n at }) h;
     }
 
     -- ---- what is handed down
 
-    handed_leaves : (shown : List (ℕ × Shown)) (n : ℕ) (g : Given) → Leaves (P but due shown) (handed n g)
+    handed_leaves : (shown : List (ℕ × Shown)) (n : ℕ) (g : Given) → Leaves (at_ends (P but due shown)) (handed n g)
     handed_leaves shown n g =
-        record { held = λ w h. unless_left (P but due shown) (hand_refusal w.states (prop_of n g) g.value) g.span _ w h (lasts.hands but due shown w.states (prop_of n g) g.value h) }
+        record { held = λ w h. unless_left (at_ends (P but due shown)) (hand_refusal w.states (prop_of n g) g.value) g.span _ w h (lasts.hands but due shown w.states (prop_of n g) g.value h) }
 
-    prop_leaves : (shown : List (ℕ × Shown)) (n : ℕ) (g : Given) → Leaves (P but due shown) (prop_set n g)
-    prop_leaves shown n g = record { held = λ w h. if_left (P but due shown) (stays w n g) (Ends tt w) (handed n g w) h ((handed_leaves shown n g).held w h) }
+    prop_leaves : (shown : List (ℕ × Shown)) (n : ℕ) (g : Given) → Leaves (at_ends (P but due shown)) (prop_set n g)
+    prop_leaves shown n g = record { held = λ w h. if_left (at_ends (P but due shown)) (stays w n g) (Ends tt w) (handed n g w) h ((handed_leaves shown n g).held w h) }
 
-    set_leaves : (shown : List (ℕ × Shown)) (n : ℕ) (props : List Given) → Leaves (P but due shown) (set n props)
+    set_leaves : (shown : List (ℕ × Shown)) (n : ℕ) (props : List Given) → Leaves (at_ends (P but due shown)) (set n props)
     set_leaves shown n props = in_turn_leaves (lasts.scripts but due shown) (prop_set n) props (prop_leaves shown n)
 
     to_lasts : (shown : List (ℕ × Shown)) (c : Component) (cell : Option ℕ) (n : ℕ) (view : View) (w : World) → IsOf due view → P but due shown w.states → P but due shown (lent_to (Some (record c { view = cell })) n view w).states
@@ -151,8 +159,8 @@ module _ {P : Option ℕ → List Level → List (ℕ × Shown) → States → T
 
     readied_brings : (n : ℕ) (all : Bool) → Brings (On (Some n) due) (Snapped n due) (readied p n all)
     readied_brings n all =
-        brings_then (scripted_brings (λ shown. reactive_leaves (lasts.scripts (Some n) due shown) p n all)) (λ _.
-        brings_then (scripted_brings (λ shown. all_back_leave (lasts.scripts (Some n) due shown) p n Before)) (λ _. brings_then (snapshot_taken n) (λ _. nothing_brings)))
+        brings_then (scripted_brings (λ shown. reactive_leaves (lasts.scripts (Some n) due shown) n all)) (λ _.
+        brings_then (scripted_brings (λ shown. all_back_leave (lasts.scripts (Some n) due shown) n Before)) (λ _. brings_then (snapshot_taken n) (λ _. nothing_brings)))
 
   -- what a patch leaves, and the views that its effects hand down
   abbrev Patched : List Level → Outcome (List Effect) → Type 0
@@ -216,8 +224,8 @@ module _ {P : Option ℕ → List Level → List (ℕ × Shown) → States → T
     destroyed_brings : {children : Task} (n : ℕ) → Brings (On None due) (On None due) children → Brings (On None due) (On None due) (destroyed_by children p n)
     destroyed_brings n k =
         brings_then (record { held = λ m h. (each_brings (waiting_callbacks m.rounds n) (after_brings n)).held m h }) (λ _.
-        brings_then (scripted_brings (λ shown. all_back_leave (lasts.scripts None due shown) p n Destroy)) (λ _.
-        brings_then (scripted_brings (λ shown. all_back_leave (lasts.scripts None due shown) p n Returned)) (λ _.
+        brings_then (scripted_brings (λ shown. all_back_leave (lasts.scripts None due shown) n Destroy)) (λ _.
+        brings_then (scripted_brings (λ shown. all_back_leave (lasts.scripts None due shown) n Returned)) (λ _.
         brings_then k (λ _. brings_then (changed_brings (gone n) (gone_lasts n)) (λ _. nothing_brings)))))
 
     children_bring : (room : ℕ) (n : ℕ) → Brings (On None due) (On None due) (children_destroyed room p n)
@@ -260,7 +268,7 @@ module _ {P : Option ℕ → List Level → List (ℕ × Shown) → States → T
     -- its callbacks wait, and so on
     started_brings : {run : List Effect → Task} (n : ℕ) (props : List Given) (view : Option View) → HandsView (IsOf due) view → Bring run → Brings (On (Some n) due) (On None due) (started p run n props view)
     started_brings n props view d k =
-        brings_then (brings_then (scripted_brings (λ shown. top_leaves (lasts.scripts (Some n) due shown) p n (passed props))) (λ _. brings_then (world_brings (lent_if p n view) (λ shown w h. lent_if_lasts shown n view w d h)) (λ _. nothing_brings))) (λ _.
+        brings_then (brings_then (scripted_brings (λ shown. top_leaves (lasts.scripts (Some n) due shown) n (passed props))) (λ _. brings_then (world_brings (lent_if p n view) (λ shown w h. lent_if_lasts shown n view w d h)) (λ _. nothing_brings))) (λ _.
         brings_then (readied_brings n true) (λ _.
         brings_then (shown_brings n k) (λ _.
         brings_then (changed_brings {Q = On None due} {R = On None due} (mount_waits n) (λ m h. h)) (λ _.
@@ -308,7 +316,7 @@ module _ {P : Option ℕ → List Level → List (ℕ × Shown) → States → T
     -- the root
     pub mounted_brings : Brings (On None due) (On None due) (mounted p)
     unfolding mounted
-    mounted_brings = brings_then (scripted_brings (λ shown. modules_leave (lasts.scripts None due shown) p)) (λ _. made_then root_site (λ n. started_brings n [] None tt (effects_bring DEPTH_LIMIT n)))
+    mounted_brings = brings_then (scripted_brings (λ shown. modules_leave (lasts.scripts None due shown))) (λ _. made_then root_site (λ n. started_brings n [] None tt (effects_bring DEPTH_LIMIT n)))
 
     -- ---- rounds
 
@@ -321,11 +329,14 @@ module _ {P : Option ℕ → List Level → List (ℕ × Shown) → States → T
         brings_then work_brings (λ _. brings_then (weakened n (readied_brings n false)) (λ _. brings_then (shown_brings n (effects_bring DEPTH_LIMIT n)) (λ _.
         brings_then (changed_brings {Q = On None due} {R = On None due} (after_waits n) (λ m h. h)) (λ _. nothing_brings))))
 
-    at_leaves : (shown : List (ℕ × Shown)) (b : Binding) → Leaves (P None due shown) (bound_at b)
-    at_leaves shown b = record { held = λ w h. unless_left (P None due shown) (bind_refusal w.states b.child b.bound) b.span _ w h (lasts.binds due shown w.states b.child b.bound h) }
-
-    bound_leaves : (shown : List (ℕ × Shown)) (b : Binding) → Leaves (P None due shown) (bound p b)
-    bound_leaves shown b = then_leaves (at_leaves shown b) (λ u. settle_leaves (lasts.scripts None due shown) p)
+    bound_leaves : (shown : List (ℕ × Shown)) (b : Binding) → Leaves (at_ends (P None due shown)) (bound p b)
+    bound_leaves shown b = record { held = λ w h. by w (bind_refusal w.states b.child b.bound) h (λ may. lasts.binds due shown w b.child b.bound may h) } where
+      by : (w : World) (o : Option AssignError) → P None due shown w.states → (MaySet o → Left (at_ends (P None due shown)) (settle p (record w { states = bound_up w.states b.child b.bound })))
+          → Left (at_ends (P None due shown)) (then_do (refused o b.span (now_bound b) w) (λ u. settle p))
+      by w None h k = k (λ e. absurd (let q = e in cc))
+      by w (Some ReadOnly) h k = tt
+      by w (Some NotAStore) h k = tt
+      by w (Some NoMemory) h k = k (λ e. absurd (let q = e in cc))
 
     all_bound_brings : Brings (On None due) (On None due) (all_bound p)
     all_bound_brings = record {
@@ -333,7 +344,7 @@ module _ {P : Option ℕ → List Level → List (ℕ × Shown) → States → T
     }
 
     rendered_brings : (one : Waiting) → Brings (On None due) (On None due) (rendered_one p one)
-    rendered_brings (mounting n) = scripted_brings (λ shown. all_mounted_leave (lasts.scripts None due shown) p n)
+    rendered_brings (mounting n) = scripted_brings (λ shown. all_mounted_leave (lasts.scripts None due shown) n)
     rendered_brings (after_update n at) = after_brings n at
 
     round_brings : Brings (On None due) (On None due) (round p)

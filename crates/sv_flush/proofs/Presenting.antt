@@ -82,19 +82,19 @@ tracked : (m : Page) → IsSound m.world.states → RecordsSeen m → Tracked m
 tracked m sound records = record { sound = sound; records = records }
 
 pub mounted-tracked : (p : Program) (m n : Page) → Tracked m → mounted p m ≡ Done tt n → Tracked n
-mounted-tracked p m n h is = subst (Afterwards Tracked) is ((mounted_brings tracks_last p []).held m h)
+mounted-tracked p m n h is = subst (Afterwards Tracked) is ((mounted_brings (tracks_last p) []).held m h)
 
 pub flushed-tracked : (p : Program) (m n : Page) → Tracked m → flushed p m ≡ Done tt n → Tracked n
-flushed-tracked p m n h is = subst (Afterwards Tracked) is ((flushed_brings tracks_last p []).held m h)
+flushed-tracked p m n h is = subst (Afterwards Tracked) is ((flushed_brings (tracks_last p) []).held m h)
 
 abbrev pub Lending : Page → Type 0
 Lending m = Lends [] m.showing.shown m.world.states
 
 pub mounted-lending : (p : Program) (m n : Page) → Lending m → mounted p m ≡ Done tt n → Lending n
-mounted-lending p m n h is = subst (Afterwards Lending) is ((mounted_brings lends_last p []).held m h)
+mounted-lending p m n h is = subst (Afterwards Lending) is ((mounted_brings (lends_last p) []).held m h)
 
 pub flushed-lending : (p : Program) (m n : Page) → Lending m → flushed p m ≡ Done tt n → Lending n
-flushed-lending p m n h is = subst (Afterwards Lending) is ((flushed_brings lends_last p []).held m h)
+flushed-lending p m n h is = subst (Afterwards Lending) is ((flushed_brings (lends_last p) []).held m h)
 
 -- ---- what code answers
 

@@ -10,7 +10,7 @@ use Rattle.std.proofs.lemmas.List.{get_or_append_left, get_or_past, get_or-set_s
 use Rattle.std.proofs.lemmas.Map.Views.{All-keys-insert_entry, All-map-remove_entry}
 use Rattle.std.proofs.lemmas.Option.{none-some, same_Some}
 use Rattle.sv_code.proofs.Compiled.{all_mono}
-use Rattle.sv_flush.proofs.Lookups.{found-put, found-put_other, found-left, found-all}
+use Rattle.sv_places.proofs.Lookups.{found-put, found-put_other, found-left, found-all}
 use Rattle.sv_flush.specs.Records.{IsRecorded, Records, nobody}
 use Rattle.sv_frame.specs.Snapshots.{Snapshot}
 use Rattle.sv_numbered.specs.Numbered.{at}

@@ -6,17 +6,21 @@ use Rattle.std.specs.Ordering.{nat_cmp}
 use Rattle.std.proofs.Math.ListN.{get_or-map}
 use Rattle.std.proofs.lemmas.List.{map-append, map-set, length-map}
 use Rattle.std.proofs.lemmas.Option.{none-some, same_Some}
+use Rattle.sv_code.specs.declared.program.Program.{Program}
 use Rattle.sv_flush.proofs.Lasting.{Lasting}
 use Rattle.sv_flush.proofs.Recording.{Only, RecordsBut, records-weaker, records-added, records-gone, records-snapped, records-but, records-dead, records-shown}
 use Rattle.sv_flush.specs.Records.{Records, nobody}
 use Rattle.sv_flush.specs.declared.page.Page.{Page}
 use Rattle.sv_frame.proofs.Altering.{pictures, seen_stays, lent_stays, snapshots-viewed, snapshots-bound, snapshots-handed, views-bound, views-handed}
-use Rattle.sv_frame.proofs.Outcomes.{Stays}
+use Rattle.sv_frame.proofs.Outcomes.{at_ends, Left, Stays, ends_stay}
+use Rattle.sv_frame.proofs.Running.{settle_leaves}
+use Rattle.sv_frame.proofs.Stepping.{Steps, steps_stay}
 use Rattle.sv_frame.specs.Snapshots.{snapshot_of, snapshots}
 use Rattle.sv_frame.specs.Views.{lent_views}
 use Rattle.sv_instance.specs.Bound.{Bound}
 use Rattle.sv_instance.specs.Cells.{present}
 use Rattle.sv_instance.specs.declared.instance.Instance.{Instance}
+use Rattle.sv_meaning.specs.Runs.{settle}
 use Rattle.sv_numbered.specs.Numbered.{at}
 use Rattle.sv_shapes.specs.declared.shown.Shown.{Shown}
 use Rattle.sv_states.proofs.Altering.{at_within, at-altered_same, at-altered_none, altered-none, altered-some}
@@ -34,11 +38,12 @@ use Rattle.sv_store.specs.Stores.{Subscriber}
 use Rattle.sv_value.specs.Value.{Val}
 use Rattle.sv_view.specs.Level.{View}
 use Rattle.sv_world.specs.World.{present_view}
+use Rattle.sv_world.specs.declared.world.World.{World}
 
 -- ---- what scripts leave
 
-pub sound_stays : Stays IsSound
-sound_stays = record {
+sound_steps : Steps IsSound
+sound_steps = record {
   left = λ s f n h. sound-inert (λ i. record i { setup = f i.setup }) s n (λ i. refl) (λ i. refl) (λ i. refl) h;
   assigned = λ s n c v h. sound-sent s (way_of s n c v) v h;
   store_set = λ s id v h. sound-sent s (record { cells = []; store = Some id }) v h;
@@ -56,21 +61,24 @@ pub record GoesBy (P : States → Type 0) : Type 0 where
 
 module _ {P : States → Type 0} (goes : GoesBy P) where
   -- so scripts leave it
-  pub goes_stays : Stays P
-  goes_stays = record {
-    left = λ s f n h. goes.on s _ h (sound_stays.left s f n (goes.sound s h)) ((seen_stays (snapshots s)).left s f n refl) ((lent_stays (lent_views s)).left s f n refl);
-    assigned = λ s n c v h. goes.on s _ h (sound_stays.assigned s n c v (goes.sound s h)) ((seen_stays (snapshots s)).assigned s n c v refl) ((lent_stays (lent_views s)).assigned s n c v refl);
-    store_set = λ s id v h. goes.on s _ h (sound_stays.store_set s id v (goes.sound s h)) ((seen_stays (snapshots s)).store_set s id v refl) ((lent_stays (lent_views s)).store_set s id v refl);
-    computed = λ s id v h. goes.on s _ h (sound_stays.computed s id v (goes.sound s h)) ((seen_stays (snapshots s)).computed s id v refl) ((lent_stays (lent_views s)).computed s id v refl);
-    with_store = λ s v h. goes.on s _ h (sound_stays.with_store s v (goes.sound s h)) refl refl;
-    with_derived = λ s owner r v h. goes.on s _ h (sound_stays.with_derived s owner r v (goes.sound s h)) refl refl;
-    declared = λ s p v h. goes.on s _ h (sound_stays.declared s p v (goes.sound s h)) ((seen_stays (snapshots s)).declared s p v refl) ((lent_stays (lent_views s)).declared s p v refl);
-    subscribed = λ s p source v h. goes.on s _ h (sound_stays.subscribed s p source v (goes.sound s h)) ((seen_stays (snapshots s)).subscribed s p source v refl) ((lent_stays (lent_views s)).subscribed s p source v refl);
+  goes_steps : Steps P
+  goes_steps = record {
+    left = λ s f n h. goes.on s _ h (sound_steps.left s f n (goes.sound s h)) ((seen_stays (snapshots s)).left s f n refl) ((lent_stays (lent_views s)).left s f n refl);
+    assigned = λ s n c v h. goes.on s _ h (sound_steps.assigned s n c v (goes.sound s h)) ((seen_stays (snapshots s)).assigned s n c v refl) ((lent_stays (lent_views s)).assigned s n c v refl);
+    store_set = λ s id v h. goes.on s _ h (sound_steps.store_set s id v (goes.sound s h)) ((seen_stays (snapshots s)).store_set s id v refl) ((lent_stays (lent_views s)).store_set s id v refl);
+    computed = λ s id v h. goes.on s _ h (sound_steps.computed s id v (goes.sound s h)) ((seen_stays (snapshots s)).computed s id v refl) ((lent_stays (lent_views s)).computed s id v refl);
+    with_store = λ s v h. goes.on s _ h (sound_steps.with_store s v (goes.sound s h)) refl refl;
+    with_derived = λ s owner r v h. goes.on s _ h (sound_steps.with_derived s owner r v (goes.sound s h)) refl refl;
+    declared = λ s p v h. goes.on s _ h (sound_steps.declared s p v (goes.sound s h)) ((seen_stays (snapshots s)).declared s p v refl) ((lent_stays (lent_views s)).declared s p v refl);
+    subscribed = λ s p source v h. goes.on s _ h (sound_steps.subscribed s p source v (goes.sound s h)) ((seen_stays (snapshots s)).subscribed s p source v refl) ((lent_stays (lent_views s)).subscribed s p source v refl);
   }
 
+  pub goes_stays : (p : Program) → Stays p (at_ends P)
+  goes_stays p = ends_stay (steps_stay goes_steps p)
+
   -- and what flushes do besides
-  pub goes-bound : (s : States) (n : ℕ) (b : Bound) → P s → P (bound_up s n b)
-  goes-bound s n b h = goes.on s _ h (sound-bound s n b (goes.sound s h)) (snapshots-bound s n b) (views-bound s n b)
+  pub goes-bound : (p : Program) (w : World) (n : ℕ) (b : Bound) → P w.states → Left (at_ends P) (settle p (record w { states = bound_up w.states n b }))
+  goes-bound p w n b h = (settle_leaves (goes_stays p)).held (record w { states = bound_up w.states n b }) (goes.on w.states _ h (sound-bound w.states n b (goes.sound w.states h)) (snapshots-bound w.states n b) (views-bound w.states n b))
 
   pub goes-handed : (s : States) (p : Subscriber) (v : Val) → P s → P (handed_down s p v)
   goes-handed s p v h = goes.on s _ h (sound-sent s (way_into s p v) v (goes.sound s h)) (snapshots-handed s p v) (views-handed s p v)
@@ -94,8 +102,8 @@ module _ {But : ℕ → Type 0} where
   tracks_go shown = record { sound = λ s h. h.sound; on = λ s t h sound same views. tracks_on shown s t h sound same }
 
   -- whatever scripts do
-  pub tracks_stay : (shown : List (ℕ × Shown)) → Stays (Tracks But shown)
-  tracks_stay shown = goes_stays (tracks_go shown)
+  pub tracks_stay : (p : Program) (shown : List (ℕ × Shown)) → Stays p (at_ends (Tracks But shown))
+  tracks_stay p shown = goes_stays (tracks_go shown) p
 
   tracks-viewed : (shown : List (ℕ × Shown)) (s : States) (n c : ℕ) (view : View) → Tracks But shown s → Tracks But shown (viewed s n c view)
   tracks-viewed shown s n c view h = tracks_on shown s _ h (sound-viewed s n c view h.sound) (snapshots-viewed s n c view)
@@ -151,11 +159,11 @@ abbrev pub left_out : Option ℕ → ℕ → Type 0
 left_out None = nobody
 left_out (Some n) = Only n
 
-pub tracks_last : Lasting (λ but due. Tracks (left_out but)) (λ n due. Shot n)
-tracks_last = record {
-  scripts = λ but due shown. tracks_stay shown;
-  binds = λ due shown s n b h. goes-bound (tracks_go shown) s n b h;
-  hands = λ but due shown s p v h. goes-handed (tracks_go shown) s p v h;
+pub tracks_last : (p : Program) → Lasting p (λ but due. Tracks (left_out but)) (λ n due. Shot n)
+tracks_last p = record {
+  scripts = λ but due shown. tracks_stay p shown;
+  binds = λ due shown w n b may h. goes-bound (tracks_go shown) p w n b h;
+  hands = λ but due shown s at v h. goes-handed (tracks_go shown) s at v h;
   lends = λ but due shown s n c view d h. tracks-viewed shown s n c view h;
   spends = λ more due shown s h. h;
   makes = λ due shown s place cells constants h. tracks-added shown s _ (new-born place cells constants) h;

@@ -8,6 +8,7 @@ ghost use Rattle.sv_flush.specs.Outcome.{each};
 ghost use Rattle.sv_flush.specs.Records.{RecordsSeen, ShowsPresent};
 ghost use Rattle.sv_flush.specs.Settled.{IsSettled};
 ghost use Rattle.sv_flush.specs.Waits.{waiting_of};
+ghost use Rattle.sv_frame.specs.Computed.{AreComputed};
 
 use crate::create::Handed;
 use crate::machine::{Machine, told, work};
@@ -20,12 +21,13 @@ use sv_states::DEPTH_LIMIT;
 use sv_value::Inst;
 
 impl Machine<'_> {
-    /// Runs the module files and makes the root, with all below it. What was recorded stays what snapshots saw, and the levels of views that are held
-    /// stay no later.
+    /// Runs the module files and makes the root, with all below it. What was recorded stays what snapshots saw, the levels of views that are held
+    /// stay no later, and derived stores are what their functions gave, with none pending.
     pub fn mount(&self, page: &mut Page) -> Result<(), PatchError>
         ensures run { Meets result page.new (mounted self.now.program.now page.old) }
         ensures records { OnOk result (RecordsSeen page.old → RecordsSeen page.new) }
         ensures past { OnOk result (HoldsPast page.old → HoldsPast page.new) }
+        ensures computed { OnOk result (AreComputed self.now.program.now page.old.world.states → AreComputed self.now.program.now page.new.world.states) }
     {
         page.world.states.facts();
         self.make_root(page)
@@ -110,13 +112,15 @@ impl Machine<'_> {
     }
 
     /// Runs rounds until nobody waits, one at least. A refusal comes exactly where one of them meets it. Where it ends, nothing waits any more, and
-    /// each live instance that is shown is shown on its present cells. The levels of views that are held stay no later than what snapshots saw.
+    /// each live instance that is shown is shown on its present cells. The levels of views that are held stay no later than what snapshots saw, and
+    /// derived stores are what their functions gave, with none pending.
     pub fn flush(&self, page: &mut Page) -> Result<(), PatchError>
         ensures run { Meets result page.new (spec.flushed self.now.program.now page.old) }
         ensures settled { OnOk result (IsSettled page.new) }
         ensures records { OnOk result (RecordsSeen page.old → RecordsSeen page.new) }
         ensures present { OnOk result (RecordsSeen page.old → ShowsPresent page.new) }
         ensures past { OnOk result (HoldsPast page.old → HoldsPast page.new) }
+        ensures computed { OnOk result (AreComputed self.now.program.now page.old.world.states → AreComputed self.now.program.now page.new.world.states) }
     {
         page.world.states.facts();
         self.run_rounds(page)

@@ -4,7 +4,7 @@ use Rattle.std.specs.Prelude.{slice_set}
 use Rattle.std.proofs.Math.Seq.{map-set_same}
 use Rattle.std.proofs.lemmas.List.{length-set}
 use Rattle.sv_derived.specs.Derived.{marked, done}
-use Rattle.sv_frame.proofs.Outcomes.{Stays}
+use Rattle.sv_frame.proofs.Stepping.{Steps}
 use Rattle.sv_frame.specs.Snapshots.{Snapshot, snapshot_of, snapshots}
 use Rattle.sv_frame.specs.Views.{lent_views}
 use Rattle.sv_instance.specs.Subscriptions.{moved_to}
@@ -132,7 +132,7 @@ module _ {X : Type 0} {g : Instance → X} (plain : Plain g) where
   subscribed_same s p source v = if_same seen (may_follow s p) (named_over source (goal_of s.stores v) s p) s (seen s) (named_same source (goal_of s.stores v) s p) refl
 
   -- the pictures are these
-  pub pictures_stay : (old : List (Option X)) → Stays (λ s. pictures g s ≡ old)
+  pub pictures_stay : (old : List (Option X)) → Steps (λ s. pictures g s ≡ old)
   pictures_stay old = record {
     left = λ s f n h. pictures-altered g (λ i. record i { setup = f i.setup }) s.lives n (λ i. plain.setup i (f i.setup)) ∙ h;
     assigned = λ s n c v h. assigned_same s n c v ∙ h;
@@ -183,12 +183,12 @@ views-handed s p v = pictures-handed plain_view s p v
 abbrev pub Seen : List (Option Snapshot) → States → Type 0
 Seen old s = snapshots s ≡ old
 
-pub seen_stays : (old : List (Option Snapshot)) → Stays (Seen old)
+pub seen_stays : (old : List (Option Snapshot)) → Steps (Seen old)
 seen_stays old = pictures_stay plain_snapshot old
 
 -- the views are these
 abbrev pub Lent : List (Option (Option View)) → States → Type 0
 Lent old s = lent_views s ≡ old
 
-pub lent_stays : (old : List (Option (Option View))) → Stays (Lent old)
+pub lent_stays : (old : List (Option (Option View))) → Steps (Lent old)
 lent_stays old = pictures_stay plain_view old

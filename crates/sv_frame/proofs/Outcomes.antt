@@ -1,15 +1,20 @@
 -- What is true of the states and stays so, whatever is done one after another.
-use Rattle.std.proofs.Common.{ℕ, zero, suc, Bool, true, false, Option, Some, None, if◌then◌else◌}
+use Rattle.std.proofs.Common.{◌≡◌, ℕ, zero, suc, Bool, true, false, length, Option, Some, None, if◌then◌else◌}
 use Rattle.sv_base.specs.declared.span.Span.{Span}
+use Rattle.sv_code.specs.declared.program.Program.{Program}
 use Rattle.sv_derived.specs.Derived.{Recipe}
+use Rattle.sv_derived.specs.Order.{AreBelow}
 use Rattle.sv_instance.specs.declared.setup.Setup.{Setup}
+use Rattle.sv_meaning.specs.Derived.{derive}
 use Rattle.sv_meaning.specs.Env.{Env}
 use Rattle.sv_meaning.specs.Outcome.{Ending, Ends, Fails, Outcome, Done, Failed, Meaning, Deed, and_then, then_do, kept, doing, left, given, either, with_steps, less_by, spent_in, spent, counted_in, counted, answered}
 use Rattle.sv_meaning.specs.Refused.{unless}
+use Rattle.sv_meaning.specs.Settling.{settled}
 use Rattle.sv_ops.specs.Answer.{Answer, Gives, Refuses}
 use Rattle.sv_ops.specs.declared.faults.FaultKind.{FaultKind}
 use Rattle.sv_states.specs.Assignment as states
 use Rattle.sv_states.specs.Change as states_change
+use Rattle.sv_states.specs.Refusal.{assign_refusal, store_refusal}
 use Rattle.sv_states.specs.States.{States, with_instance}
 use Rattle.sv_states.specs.declared.error.AssignError.{AssignError}
 use Rattle.sv_states.specs.declared.error.AssignError.TheVariants.{ReadOnly, NotAStore, NoMemory}
@@ -17,51 +22,90 @@ use Rattle.sv_store.specs.Stores.{Subscriber}
 use Rattle.sv_value.specs.Value.{Val}
 use Rattle.sv_world.specs.declared.world.World.{World}
 
--- it stays true whatever scripts do to the states, one thing at a time
-pub record Stays (P : States → Type 0) : Type 0 where
-  pub left : (s : States) (f : Setup → Setup) (n : ℕ) → P s → P (with_instance (λ i. record i { setup = f i.setup }) s n)
-  pub assigned : (s : States) (n c : ℕ) (v : Val) → P s → P (states.assigned s n c v)
-  pub store_set : (s : States) (id : ℕ) (v : Val) → P s → P (states.store_set s id v)
-  pub computed : (s : States) (id : ℕ) (v : Val) → P s → P (states.computed s id v)
-  pub with_store : (s : States) (v : Val) → P s → P (states_change.with_store s v)
-  pub with_derived : (s : States) (owner : ℕ) (r : Recipe) (v : Val) → P s → P (states_change.with_derived s owner r v)
-  pub declared : (s : States) (p : Subscriber) (v : Val) → P s → P (states_change.declared s p v)
-  pub subscribed : (s : States) (p : Subscriber) (source : Option ℕ) (v : Val) → P s → P (states_change.subscribed_to s p source v)
+-- what is true of the states where something ends, and, which is no more, where it fails
+pub record Fact : Type 1 where
+  pub ends : States → Type 0
+  pub fails : States → Type 0
+  pub weaker : (s : States) → ends s → fails s
 
-pub both_stay : {P R : States → Type 0} → Stays P → Stays R → Stays (λ s. P s × R s)
-both_stay h k = record {
-  left = λ s f n x. (h.left s f n x.0, k.left s f n x.1);
-  assigned = λ s n c v x. (h.assigned s n c v x.0, k.assigned s n c v x.1);
-  store_set = λ s id v x. (h.store_set s id v x.0, k.store_set s id v x.1);
-  computed = λ s id v x. (h.computed s id v x.0, k.computed s id v x.1);
-  with_store = λ s v x. (h.with_store s v x.0, k.with_store s v x.1);
-  with_derived = λ s owner r v x. (h.with_derived s owner r v x.0, k.with_derived s owner r v x.1);
-  declared = λ s p v x. (h.declared s p v x.0, k.declared s p v x.1);
-  subscribed = λ s p source v x. (h.subscribed s p source v x.0, k.subscribed s p source v x.1);
-}
+-- it is true either way
+abbrev pub always : (States → Type 0) → Fact
+always P = record { ends = P; fails = P; weaker = λ s h. h }
 
-abbrev pub Held : (P : States → Type 0) {A : Type 0} → Outcome A → Type 0
-Held P (Done a env w) = P w.states
-Held P (Failed k s w) = P w.states
+-- it is true where something ends
+abbrev pub at_ends : (States → Type 0) → Fact
+at_ends P = record { ends = P; fails = λ s. Unit {0}; weaker = λ s h. tt }
 
-abbrev pub Left : (P : States → Type 0) {A : Type 0} → Ending A → Type 0
-Left P (Ends a w) = P w.states
-Left P (Fails k s w) = P w.states
+abbrev pub Held : (P : Fact) {A : Type 0} → Outcome A → Type 0
+Held P (Done a env w) = P.ends w.states
+Held P (Failed k s w) = P.fails w.states
+
+abbrev pub Left : (P : Fact) {A : Type 0} → Ending A → Type 0
+Left P (Ends a w) = P.ends w.states
+Left P (Fails k s w) = P.fails w.states
 
 -- code keeps it true
-pub record Keeps (P : States → Type 0) {A : Type 0} (m : Meaning A) : Type 0 where
-  pub held : (env : Env) (w : World) → P w.states → Held P (m env w)
+pub record Keeps (P : Fact) {A : Type 0} (m : Meaning A) : Type 0 where
+  pub held : (env : Env) (w : World) → P.ends w.states → Held P (m env w)
 
 -- a deed keeps it true
-pub record Leaves (P : States → Type 0) {A : Type 0} (d : Deed A) : Type 0 where
-  pub held : (w : World) → P w.states → Left P (d w)
+pub record Leaves (P : Fact) {A : Type 0} (d : Deed A) : Type 0 where
+  pub held : (w : World) → P.ends w.states → Left P (d w)
 
-module _ (P : States → Type 0) where
-  pub then_held : {A B : Type 0} (o : Outcome A) (go : A → Meaning B) → Held P o → ((a : A) (env : Env) (w : World) → P w.states → Held P (go a env w)) → Held P (and_then o go)
+-- a derived store isn't set
+abbrev pub MaySet : Option AssignError → Type 0
+MaySet o = o ≡ Some ReadOnly → ⊥
+
+-- it stays true whatever scripts do to the states, one thing at a time; derived stores settle behind what sets a store
+pub record Stays (p : Program) (P : Fact) : Type 0 where
+  pub left : (s : States) (f : Setup → Setup) (n : ℕ) → P.ends s → P.ends (with_instance (λ i. record i { setup = f i.setup }) s n)
+  pub declared : (s : States) (at : Subscriber) (v : Val) → P.ends s → P.ends (states_change.declared s at v)
+  pub subscribed : (s : States) (at : Subscriber) (source : Option ℕ) (v : Val) → P.ends s → P.ends (states_change.subscribed_to s at source v)
+  pub with_store : (s : States) (v : Val) → P.ends s → P.ends (states_change.with_store s v)
+  pub with_derived : (room : ℕ) (w w' : World) (owner : ℕ) (r : Recipe) (v : Val) → AreBelow r.inputs (length w.states.stores) → derive p room owner r w ≡ Ends v w' → P.ends w.states
+      → P.ends (states_change.with_derived w'.states owner r v)
+  pub settles : (room : ℕ) (w : World) → P.ends w.states → Left P (settled (derive p room) w)
+  pub assigned : (room : ℕ) (w : World) (n c : ℕ) (v : Val) → MaySet (assign_refusal w.states n c v) → P.ends w.states → Left P (settled (derive p room) (record w { states = states.assigned w.states n c v }))
+  pub store_set : (room : ℕ) (w : World) (id : ℕ) (v : Val) → MaySet (store_refusal w.states id) → P.ends w.states → Left P (settled (derive p room) (record w { states = states.store_set w.states id v }))
+
+pub both_stay : {p : Program} {P R : States → Type 0} → Stays p (at_ends P) → Stays p (at_ends R) → Stays p (at_ends (λ s. P s × R s))
+both_stay {P = P} {R = R} h k = record {
+  left = λ s f n x. (h.left s f n x.0, k.left s f n x.1);
+  declared = λ s at v x. (h.declared s at v x.0, k.declared s at v x.1);
+  subscribed = λ s at source v x. (h.subscribed s at source v x.0, k.subscribed s at source v x.1);
+  with_store = λ s v x. (h.with_store s v x.0, k.with_store s v x.1);
+  with_derived = λ room w w' owner r v b e x. (h.with_derived room w w' owner r v b e x.0, k.with_derived room w w' owner r v b e x.1);
+  settles = λ room w x. both_left _ (h.settles room w x.0) (k.settles room w x.1);
+  assigned = λ room w n c v may x. both_left _ (h.assigned room w n c v may x.0) (k.assigned room w n c v may x.1);
+  store_set = λ room w id v may x. both_left _ (h.store_set room w id v may x.0) (k.store_set room w id v may x.1);
+} where
+  both_left : {A : Type 0} (e : Ending A) → Left (at_ends P) e → Left (at_ends R) e → Left (at_ends (λ s. P s × R s)) e
+  both_left (Ends a w) x y = (x, y)
+  both_left (Fails kind s w) x y = tt
+
+-- what is true either way is true where something ends
+pub ends_left : (P : Fact) {A : Type 0} (e : Ending A) → Left P e → Left (at_ends P.ends) e
+ends_left P (Ends a w) h = h
+ends_left P (Fails k s w) h = tt
+
+pub ends_stay : {p : Program} {P : Fact} → Stays p P → Stays p (at_ends P.ends)
+ends_stay {p = p} {P = P} h = record {
+  left = h.left;
+  declared = h.declared;
+  subscribed = h.subscribed;
+  with_store = h.with_store;
+  with_derived = h.with_derived;
+  settles = λ room w x. ends_left P (settled (derive p room) w) (h.settles room w x);
+  assigned = λ room w n c v may x. ends_left P (settled (derive p room) (record w { states = states.assigned w.states n c v })) (h.assigned room w n c v may x);
+  store_set = λ room w id v may x. ends_left P (settled (derive p room) (record w { states = states.store_set w.states id v })) (h.store_set room w id v may x);
+}
+
+module _ (P : Fact) where
+  pub then_held : {A B : Type 0} (o : Outcome A) (go : A → Meaning B) → Held P o → ((a : A) (env : Env) (w : World) → P.ends w.states → Held P (go a env w)) → Held P (and_then o go)
   then_held (Done a env w) go h k = k a env w h
   then_held (Failed kind s w) go h k = h
 
-  pub then_left : {A B : Type 0} (e : Ending A) (go : A → Deed B) → Left P e → ((a : A) (w : World) → P w.states → Left P (go a w)) → Left P (then_do e go)
+  pub then_left : {A B : Type 0} (e : Ending A) (go : A → Deed B) → Left P e → ((a : A) (w : World) → P.ends w.states → Left P (go a w)) → Left P (then_do e go)
   then_left (Ends a w) go h k = k a w h
   then_left (Fails kind s w) go h k = h
 
@@ -69,13 +113,13 @@ module _ (P : States → Type 0) where
   if_left true x y h k = h
   if_left false x y h k = k
 
-  pub unless_left : {A : Type 0} (o : Option AssignError) (s : Span) (d : Deed A) (w : World) → P w.states → Left P (d w) → Left P (unless o s d w)
+  pub unless_left : {A : Type 0} (o : Option AssignError) (s : Span) (d : Deed A) (w : World) → P.ends w.states → Left P (d w) → Left P (unless o s d w)
   unless_left None s d w h k = k
-  unless_left (Some ReadOnly) s d w h k = h
-  unless_left (Some NotAStore) s d w h k = h
+  unless_left (Some ReadOnly) s d w h k = P.weaker w.states h
+  unless_left (Some NotAStore) s d w h k = P.weaker w.states h
   unless_left (Some NoMemory) s d w h k = k
 
-  kept_held : {A : Type 0} (env : Env) (e : Ending A) → Left P e → Held P (kept env e)
+  pub kept_held : {A : Type 0} (env : Env) (e : Ending A) → Left P e → Held P (kept env e)
   kept_held env (Ends a w) h = h
   kept_held env (Fails k s w) h = h
 
@@ -83,7 +127,7 @@ module _ (P : States → Type 0) where
   left_held (Done a env w) h = h
   left_held (Failed k s w) h = h
 
-module _ {P : States → Type 0} where
+module _ {P : Fact} where
   -- ---- code
 
   pub then_keeps : {A B : Type 0} {m : Meaning A} {go : A → Meaning B} → Keeps P m → ((a : A) → Keeps P (go a)) → Keeps P (λ env w. and_then (m env w) go)
@@ -93,7 +137,7 @@ module _ {P : States → Type 0} where
   done_keeps a = record { held = λ env w h. h }
 
   pub failed_keeps : {A : Type 0} (k : FaultKind) (s : Span) → Keeps P {A = A} (λ env w. Failed k s w)
-  failed_keeps k s = record { held = λ env w h. h }
+  failed_keeps k s = record { held = λ env w h. P.weaker w.states h }
 
   pub either_keeps : {A : Type 0} (b : Bool) {m n : Meaning A} → Keeps P m → Keeps P n → Keeps P (either b m n)
   either_keeps true k l = k
@@ -101,8 +145,8 @@ module _ {P : States → Type 0} where
 
   pub counted_keeps : {A : Type 0} (s : Span) {m : Meaning A} → Keeps P m → Keeps P (counted s m)
   counted_keeps s {m = m} k = record { held = λ env w h. go w.turn.steps env w h } where
-    go : (n : ℕ) (env : Env) (w : World) → P w.states → Held P (counted_in n s m env w)
-    go zero env w h = h
+    go : (n : ℕ) (env : Env) (w : World) → P.ends w.states → Held P (counted_in n s m env w)
+    go zero env w h = P.weaker w.states h
     go (suc n) env w h = k.held env (with_steps n w) h
 
   -- ---- deeds
@@ -114,20 +158,20 @@ module _ {P : States → Type 0} where
   ends_leaves a = record { held = λ w h. h }
 
   pub fails_leaves : {A : Type 0} (k : FaultKind) (s : Span) → Leaves P {A = A} (Fails k s)
-  fails_leaves k s = record { held = λ w h. h }
+  fails_leaves k s = record { held = λ w h. P.weaker w.states h }
 
   pub if_leaves : {A : Type 0} (b : Bool) {d e : Deed A} → Leaves P d → Leaves P e → Leaves P (if b then d else e)
   if_leaves true k l = k
   if_leaves false k l = l
 
   pub given_leaves : {A : Type 0} (k : FaultKind) (s : Span) (o : Option A) → Leaves P (given k s o)
-  given_leaves k s None = record { held = λ w h. h }
+  given_leaves k s None = record { held = λ w h. P.weaker w.states h }
   given_leaves k s (Some a) = record { held = λ w h. h }
 
   pub spent_leaves : {A : Type 0} (n : ℕ) (s : Span) {d : Deed A} → Leaves P d → Leaves P (spent n s d)
   spent_leaves n s {d = d} k = record { held = λ w h. go (less_by n w.turn.steps) w h } where
-    go : (o : Option ℕ) (w : World) → P w.states → Left P (spent_in o s d w)
-    go None w h = h
+    go : (o : Option ℕ) (w : World) → P.ends w.states → Left P (spent_in o s d w)
+    go None w h = P.weaker w.states h
     go (Some steps) w h = k.held (with_steps steps w) h
 
   pub answered_leaves : (s : Span) (a : Answer) → Leaves P (answered s a)

@@ -20,17 +20,17 @@ use Rattle.sv_code.specs.declared.program.ProgramFile.{ProgramFile}
 use Rattle.sv_code.specs.declared.program.Run.{Run}
 use Rattle.sv_code.specs.declared.program.StoreCell.{StoreCell}
 use Rattle.sv_code.specs.declared.tags.Handler.{Handler}
-use Rattle.sv_derived.specs.Derived.{Recipe}
-use Rattle.sv_frame.proofs.Outcomes.{Stays, Keeps, Leaves, Left, then_left, then_keeps, done_keeps, counted_keeps, then_leaves, ends_leaves, fails_leaves, given_leaves, answered_leaves, left_leaves}
+use Rattle.sv_frame.proofs.Outcomes.{Fact, Stays, Keeps, Leaves, Left, then_left, then_keeps, done_keeps, counted_keeps, then_leaves, ends_leaves, fails_leaves, given_leaves, answered_leaves, left_leaves}
 use Rattle.sv_frame.proofs.Statements.{value_or_keeps, constant_stays, subscribe_leaves, declare_keeps, in_order_keeps, valued_keeps, run_keeps, runs_keep}
-use Rattle.sv_frame.proofs.Values.{Each, DerivesKeep, CallerKeeps, settled_leaves, value_leaves, make_leaves, expr_keeps}
-use Rattle.sv_meaning.specs.Calls.{Caller, call_value, first, second}
+use Rattle.sv_frame.proofs.Values.{Each, expr_keeps}
+use Rattle.sv_frame.proofs.Calls.{DerivesAs, CallerKeeps, value_leaves, make_leaves}
+use Rattle.sv_meaning.specs.Calls.{Caller, first, second}
 use Rattle.sv_meaning.specs.Components.{component_of}
 use Rattle.sv_meaning.specs.Env.{Env}
-use Rattle.sv_meaning.specs.Derived.{input_values, handed, derived_ground, apart, rejoined, called_apart, derive, running}
-use Rattle.sv_meaning.specs.Functions.{Teller, Mode, silent, dispatched, dispatch, event_fields, entered, env_of, found, if_there, returned, called_within, caller}
+use Rattle.sv_meaning.specs.Derived.{running}
+use Rattle.sv_meaning.specs.Functions.{Teller, Mode, dispatched, dispatch, event_fields, entered, env_of, found, if_there, returned, called_within, caller}
 use Rattle.sv_meaning.specs.Listeners.{heard_value, heard_result, heard_on, heard, heard_if, heard_attr, heard_by, heard_from, handler_of, is_named, listener_view, Hearer, hearer_of, attrs_of, told, teller}
-use Rattle.sv_meaning.specs.Outcome.{Ending, Ends, Fails, Meaning, Deed, given}
+use Rattle.sv_meaning.specs.Outcome.{Fails, Meaning, Deed, given}
 use Rattle.sv_meaning.specs.Parts.{part_value}
 use Rattle.sv_meaning.specs.Runs.{world_ground, calls, each_in_turn, function_set, functions_set, given_for, prop_value, prop_declared, top_kind, top, script, modules_opened, run_module, run_modules, cell_opened, cells_opened, view_opened, name_opened, name_subscribed, opened, run_component, run_top, is_due, inner, run_at, run_due, run_reactive, called, settle}
 use Rattle.sv_meaning.specs.Sight.{Ground, ground_in, is_there}
@@ -40,24 +40,23 @@ use Rattle.sv_meaning.specs.declared.limits.TheConstants.{CALL_LIMIT}
 use Rattle.sv_ops.specs.Answer.{object_made}
 use Rattle.sv_ops.specs.declared.faults.Fault.{Fault}
 use Rattle.sv_ops.specs.declared.faults.FaultKind.TheVariants.{NotText, NotAFunction, CallDepth, UseBeforeInit}
-use Rattle.sv_states.specs.States.{States, live, value_in}
+use Rattle.sv_states.specs.States.{live, value_in}
 use Rattle.sv_states.specs.declared.states.TheConstants.{DEPTH_LIMIT}
 use Rattle.sv_value.specs.Value.{Val, Vals, undefined, null, boolean, number, text, list, object, function, store, items, none}
 use Rattle.sv_view.specs.Constants.{module_constant_at}
 use Rattle.sv_view.specs.Level.{View}
 use Rattle.sv_view.specs.Local.{Local}
-use Rattle.sv_world.specs.World.{constants_view}
 use Rattle.sv_world.specs.declared.world.World.{World}
 
-module _ (P : States → Type 0) where
+module _ (p : Program) (P : Fact) where
   abbrev pub TellerKeeps : Teller → Type 0
-  TellerKeeps tell = (call : Caller) → CallerKeeps P call → (i : ℕ) (name : List ℕ) (e : Val) → Leaves P (tell call i name e)
+  TellerKeeps tell = (call : Caller) → CallerKeeps p P call → (i : ℕ) (name : List ℕ) (e : Val) → Leaves P (tell call i name e)
 
   pub record ModeKeeps (mode : Mode) : Type 0 where
     pub told_of : TellerKeeps mode.tells
-    pub derived : (room : ℕ) → DerivesKeep P (mode.derives room)
+    pub derived : (room : ℕ) → DerivesAs p (mode.derives room)
 
-module _ {P : States → Type 0} (stays : Stays P) where
+module _ {p : Program} {P : Fact} (stays : Stays p P) where
   -- ---- functions
 
   dispatched_leaves : {tell : Val → Deed (Unit {0})} (s : Span) (name : List ℕ) (d : Val) → ((e : Val) → Leaves P (tell e)) → Leaves P (dispatched tell s name d)
@@ -74,35 +73,35 @@ module _ {P : States → Type 0} (stays : Stays P) where
   dispatch_leaves s (function c o held) d k = fails_leaves NotText s
   dispatch_leaves s (store id) d k = fails_leaves NotText s
 
-  module _ (tell : Teller) (tells : TellerKeeps P tell) where
-    entered_leaves : (g : Ground) (call : Caller) → CallerKeeps P call → (b : FunctionBody) (o : ℕ) (env : Env) (args : List Val) (s : Span) → Leaves P (entered b tell g call o env args s)
+  module _ (tell : Teller) (tells : TellerKeeps p P tell) where
+    entered_leaves : (g : Ground) (call : Caller) → CallerKeeps p P call → (b : FunctionBody) (o : ℕ) (env : Env) (args : List Val) (s : Span) → Leaves P (entered b tell g call o env args s)
     entered_leaves g call k (body.Value e) o env args s = left_leaves env (expr_keeps stays g call k o e)
     entered_leaves g call k (body.Block stmts) o env args s = then_leaves (left_leaves env (in_order_keeps stays _ (runs_keep stays g call k o stmts))) (λ f. ends_leaves (returned f))
     entered_leaves g call k body.Dispatch o env args s = dispatch_leaves s (first args) (second args) (λ name e. tells call k o name e)
     entered_leaves g call k body.Writable o env args s = make_leaves stays (first args)
 
-    found_leaves : (g : Ground) (call : Caller) → CallerKeeps P call → (f : Option Function) (o : ℕ) (held args : List Val) (s : Span) → Leaves P (found f tell g call o held args s)
+    found_leaves : (g : Ground) (call : Caller) → CallerKeeps p P call → (f : Option Function) (o : ℕ) (held args : List Val) (s : Span) → Leaves P (found f tell g call o held args s)
     found_leaves g call k None o held args s = ends_leaves undefined
     found_leaves g call k (Some f) o held args s = entered_leaves g call k f.body o (env_of f held args) args s
 
-  module _ (mode : Mode) (keeps : ModeKeeps P mode) where
-    there_left : (b : Bool) (s : Span) (d : Deed Val) (w : World) → Leaves P d → P w.states → Left P (if_there b s d w)
+  module _ (mode : Mode) (keeps : ModeKeeps p P mode) where
+    there_left : (b : Bool) (s : Span) (d : Deed Val) (w : World) → Leaves P d → P.ends w.states → Left P (if_there b s d w)
     there_left true s d w k h = k.held w h
-    there_left false s d w k h = h
+    there_left false s d w k h = P.weaker w.states h
 
     -- a call, with so many more that may be open
     within_leaves : (g : Ground) (room c o : ℕ) (held : Vals) (args : List Val) (s : Span) → Leaves P (called_within mode g room c o held args s)
     within_leaves g zero c o held args s = record { held = λ w h. there_left (is_there g.sight o w) s (Fails CallDepth s) w (fails_leaves CallDepth s) h }
     within_leaves g (suc room) c o held args s =
-        let inside : CallerKeeps P (caller mode (ground_in g c) room) = record { called = within_leaves (ground_in g c) room; derived = keeps.derived room } in
+        let inside : CallerKeeps p P (caller mode (ground_in g c) room) = record { called = within_leaves (ground_in g c) room; derived = keeps.derived room } in
         record { held = λ w h. there_left (is_there g.sight o w) s _ w (found_leaves mode.tells keeps.told_of (ground_in g c) (caller mode (ground_in g c) room) inside (slice_get g.program.functions c) o (items held) args s) h }
 
-    pub caller_keeps : (g : Ground) (room : ℕ) → CallerKeeps P (caller mode g room)
+    pub caller_keeps : (g : Ground) (room : ℕ) → CallerKeeps p P (caller mode g room)
     caller_keeps g room = record { called = within_leaves g room; derived = keeps.derived room }
 
   -- ---- listeners of tags
 
-  module _ (p : Program) (call : Caller) (k : CallerKeeps P call) where
+  module _ (call : Caller) (k : CallerKeeps p P call) where
     heard_value_leaves : (s : Span) (v e : Val) → Leaves P (heard_value p call s v e)
     heard_value_leaves s undefined e = ends_leaves tt
     heard_value_leaves s null e = ends_leaves tt
@@ -151,34 +150,22 @@ module _ {P : States → Type 0} (stays : Stays P) where
     told_leaves (suc room) i name e =
         record { held = λ w h. (heard_from_leaves (λ owner. told room p call owner name) (λ owner e'. told_leaves room owner name e') name (hearer_of (live w.states i)) e).held w h }
 
-  pub teller_keeps : (p : Program) → TellerKeeps P (teller p)
-  teller_keeps p call k i name e = told_leaves p call k DEPTH_LIMIT i name e
+  pub teller_keeps : TellerKeeps p P (teller p)
+  teller_keeps call k i name e = told_leaves call k DEPTH_LIMIT i name e
 
-  -- ---- derived stores, which are computed apart from the states
-
-  rejoined_left : (w : World) (e : Ending Val) → P w.states → Left P (rejoined w e)
-  rejoined_left w (Ends v w') h = h
-  rejoined_left w (Fails k s w') h = h
-
-  apart_leaves : (p : Program) (room owner : ℕ) (r : Recipe) (v : Val) → Leaves P (called_apart p room owner r v)
-  apart_leaves p room owner r v = record { held = λ w h. rejoined_left w (call_value (caller silent (derived_ground p (constants_view w owner)) room) r.span r.function (v ∷ []) (apart w)) h }
-
-  derive_leaves : (p : Program) (room : ℕ) → DerivesKeep P (derive p room)
-  derive_leaves p room owner r = then_leaves (record { held = λ w h. (answered_leaves r.span (handed r.takes_list (input_values w.states.stores r.inputs))).held w h }) (apart_leaves p room owner r)
-
-  pub running_keeps : (p : Program) → ModeKeeps P (running p)
-  running_keeps p = record { told_of = teller_keeps p; derived = derive_leaves p }
+  pub running_keeps : ModeKeeps p P (running p)
+  running_keeps = record { told_of = teller_keeps; derived = λ room. record { room = room; is = refl } }
 
   -- ---- calls by the page
 
-  pub calls_keep : (p : Program) → CallerKeeps P (calls p)
-  calls_keep p = caller_keeps (running p) (running_keeps p) (world_ground p) CALL_LIMIT
+  pub calls_keep : CallerKeeps p P (calls p)
+  calls_keep = caller_keeps (running p) running_keeps (world_ground p) CALL_LIMIT
 
-  pub settle_leaves : (p : Program) → Leaves P (settle p)
-  settle_leaves p = settled_leaves stays (calls p).derives (calls_keep p).derived
+  pub settle_leaves : Leaves P (settle p)
+  settle_leaves = record { held = λ w h. stays.settles CALL_LIMIT w h }
 
-  pub called_leaves : (p : Program) (v : Val) (args : List Val) (s : Span) → Leaves P (called p v args s)
-  called_leaves p v args s = value_leaves stays (calls p) (calls_keep p) (source_of p v s) v args
+  pub called_leaves : (v : Val) (args : List Val) (s : Span) → Leaves P (called p v args s)
+  called_leaves v args s = value_leaves stays (calls p) calls_keep (source_of p v s) v args
 
   -- ---- scripts
 
@@ -186,7 +173,7 @@ module _ {P : States → Type 0} (stays : Stays P) where
   in_turn_leaves f [] k = ends_leaves tt
   in_turn_leaves f (x ∷ xs) k = then_leaves (k x) (λ u. in_turn_leaves f xs k)
 
-  function_stays : (owner : ℕ) (s : Span) (x : CodeStmtKind-F CodeStmtKind CodeArm CodeStmt) (w : World) → P w.states → P (function_set owner s x w).states
+  function_stays : (owner : ℕ) (s : Span) (x : CodeStmtKind-F CodeStmtKind CodeArm CodeStmt) (w : World) → P.ends w.states → P.ends (function_set owner s x w).states
   function_stays owner s (CodeStmtKind-F.Function x exported (known.Constant n) c) w h = constant_stays stays owner s.file n (function c owner none) w h
   function_stays owner s (CodeStmtKind-F.Function x exported (known.Local n) c) w h = h
   function_stays owner s (CodeStmtKind-F.Function x exported (known.Cell n) c) w h = h
@@ -211,7 +198,7 @@ module _ {P : States → Type 0} (stays : Stays P) where
   function_stays owner s (CodeStmtKind-F.Export ds) w h = h
   function_stays owner s (CodeStmtKind-F.React m) w h = h
 
-  functions_stay : (owner : ℕ) (stmts : List CodeStmt) (w : World) → P w.states → P (functions_set owner stmts w).states
+  functions_stay : (owner : ℕ) (stmts : List CodeStmt) (w : World) → P.ends w.states → P.ends (functions_set owner stmts w).states
   functions_stay owner [] w h = h
   functions_stay owner (s ∷ stmts) w h = functions_stay owner stmts (function_set owner s.span (out-CodeStmtKind s.kind) w) (function_stays owner s.span (out-CodeStmtKind s.kind) w h)
 
@@ -226,10 +213,10 @@ module _ {P : States → Type 0} (stays : Stays P) where
   prop_value_keeps (function c o held) k = done_keeps (function c o held)
   prop_value_keeps (store id) k = done_keeps (store id)
 
-  module _ (p : Program) (owner : ℕ) (props : List (ℕ × Val)) where
+  module _ (owner : ℕ) (props : List (ℕ × Val)) where
     prop_keeps : (d : CodeDecl) → Keeps P (prop_declared p owner props d)
     prop_keeps d =
-        then_keeps (prop_value_keeps (given_for props d.target) (value_or_keeps stays _ (valued_keeps stays (world_ground p) (calls p) (calls_keep p) owner d.first))) (declare_keeps stays owner d)
+        then_keeps (prop_value_keeps (given_for props d.target) (value_or_keeps stays _ (valued_keeps stays (world_ground p) (calls p) calls_keep owner d.first))) (declare_keeps stays owner d)
 
     props_keep : (ds : List CodeDecl) → Each (Keeps P) (map (prop_declared p owner props) ds)
     props_keep [] = tt
@@ -237,7 +224,7 @@ module _ {P : States → Type 0} (stays : Stays P) where
 
     top_kind_keeps : (x : CodeStmtKind-F CodeStmtKind CodeArm CodeStmt) (s : CodeStmt) → Keeps P (top_kind p owner props x s)
     top_kind_keeps (CodeStmtKind-F.Export ds) s = counted_keeps s.span (in_order_keeps stays _ (props_keep ds))
-    top_kind_keeps _ s = run_keeps stays (world_ground p) (calls p) (calls_keep p) owner s
+    top_kind_keeps _ s = run_keeps stays (world_ground p) (calls p) calls_keep owner s
 
     tops_keep : (stmts : List CodeStmt) → Each (Keeps P) (map (top p owner props) stmts)
     tops_keep [] = tt
@@ -248,72 +235,72 @@ module _ {P : States → Type 0} (stays : Stays P) where
 
   -- ---- module files
 
-  file_left : (p : Program) (c : FileCode) (f : ProgramFile) (w : World) → P w.states → Left P (run_module p (Some (record f { code = c })) w)
-  file_left p (file_code.Component c) f w h = h
-  file_left p (file_code.Module m) f w h = (script_leaves p 0 [] m.script).held (functions_set 0 m.script w) (functions_stay 0 m.script w h)
+  file_left : (c : FileCode) (f : ProgramFile) (w : World) → P.ends w.states → Left P (run_module p (Some (record f { code = c })) w)
+  file_left (file_code.Component c) f w h = h
+  file_left (file_code.Module m) f w h = (script_leaves 0 [] m.script).held (functions_set 0 m.script w) (functions_stay 0 m.script w h)
 
-  module_leaves : (p : Program) (o : Option ProgramFile) → Leaves P (run_module p o)
-  module_leaves p None = ends_leaves tt
-  module_leaves p (Some f) = record { held = λ w h. file_left p f.code f w h }
+  module_leaves : (o : Option ProgramFile) → Leaves P (run_module p o)
+  module_leaves None = ends_leaves tt
+  module_leaves (Some f) = record { held = λ w h. file_left f.code f w h }
 
-  pub modules_leave : (p : Program) → Leaves P (run_modules p)
-  modules_leave p = record { held = λ w h. (in_turn_leaves (λ n. run_module p (slice_get p.files n)) p.modules (λ n. module_leaves p (slice_get p.files n))).held (modules_opened p w) h }
+  pub modules_leave : Leaves P (run_modules p)
+  modules_leave = record { held = λ w h. (in_turn_leaves (λ n. run_module p (slice_get p.files n)) p.modules (λ n. module_leaves (slice_get p.files n))).held (modules_opened p w) h }
 
   -- ---- components
 
-  cells_stay : (owner : ℕ) (cells : List ℕ) (w : World) → P w.states → P (cells_opened owner cells w).states
+  cells_stay : (owner : ℕ) (cells : List ℕ) (w : World) → P.ends w.states → P.ends (cells_opened owner cells w).states
   cells_stay owner [] w h = h
   cells_stay owner (n ∷ cells) w h = cells_stay owner cells (cell_opened owner w n) (stays.declared w.states (record { inst = owner; cell = n }) undefined h)
 
-  view_stays : (owner : ℕ) (o : Option ℕ) (w : World) → P w.states → P (view_opened owner o w).states
+  view_stays : (owner : ℕ) (o : Option ℕ) (w : World) → P.ends w.states → P.ends (view_opened owner o w).states
   view_stays owner None w h = h
   view_stays owner (Some n) w h = stays.declared w.states (record { inst = owner; cell = n }) undefined h
 
-  opened_stays : (c : Component) (owner : ℕ) (w : World) → P w.states → P (opened c owner w).states
+  opened_stays : (c : Component) (owner : ℕ) (w : World) → P.ends w.states → P.ends (opened c owner w).states
   opened_stays c owner w h = functions_stay owner c.script _ (view_stays owner c.view _ (cells_stay owner c.reactive w h))
 
-  name_left : (o : Option Val) (owner n : ℕ) (x : StoreCell) (w : World) → P w.states → Left P (name_opened o owner n x w)
+  name_left : (o : Option Val) (owner n : ℕ) (x : StoreCell) (w : World) → P.ends w.states → Left P (name_opened o owner n x w)
   name_left None owner n x w h = h
   name_left (Some v) owner n x w h = (subscribe_leaves stays owner x.cell (Some n) x.span v).held w h
 
-  holder_left : (owner : ℕ) (k : Known) (x : StoreCell) (w : World) → P w.states → Left P (name_subscribed owner (record x { holder = k }) w)
+  holder_left : (owner : ℕ) (k : Known) (x : StoreCell) (w : World) → P.ends w.states → Left P (name_subscribed owner (record x { holder = k }) w)
   holder_left owner (known.Export file n) x w h =
-      then_left P (given UseBeforeInit x.span (module_constant_at w.modules file n) w) (subscribe owner x.cell None x.span) ((given_leaves UseBeforeInit x.span (module_constant_at w.modules file n)).held w h)
+      then_left P (given UseBeforeInit x.span (module_constant_at w.modules file n) w) (subscribe owner x.cell None x.span) ((given_leaves {P = P} UseBeforeInit x.span (module_constant_at w.modules file n)).held w h)
       (λ v w' h'. (subscribe_leaves stays owner x.cell None x.span v).held w' h')
-  holder_left owner (known.Local n) x w h = h
+  holder_left owner (known.Local n) x w h = P.weaker w.states h
   holder_left owner (known.Cell n) x w h = name_left (value_in (live w.states owner) n) owner n (record x { holder = known.Cell n }) w h
   holder_left owner (known.Constant n) x w h = h
-  holder_left owner (known.Life l) x w h = h
-  holder_left owner known.Writable x w h = h
-  holder_left owner known.Derived x w h = h
-  holder_left owner (known.BuiltIn b) x w h = h
+  holder_left owner (known.Life l) x w h = P.weaker w.states h
+  holder_left owner known.Writable x w h = P.weaker w.states h
+  holder_left owner known.Derived x w h = P.weaker w.states h
+  holder_left owner (known.BuiltIn b) x w h = P.weaker w.states h
 
   name_leaves : (owner : ℕ) (x : StoreCell) → Leaves P (name_subscribed owner x)
   name_leaves owner x = record { held = λ w h. holder_left owner x.holder x w h }
 
-  component_leaves : (p : Program) (c : Component) (owner : ℕ) (props : List (ℕ × Val)) → Leaves P (run_component p c owner props)
-  component_leaves p c owner props = then_leaves (record { held = λ w h. (in_turn_leaves (name_subscribed owner) c.stores (name_leaves owner)).held (opened c owner w) (opened_stays c owner w h) }) (λ u. script_leaves p owner props c.script)
+  component_leaves : (c : Component) (owner : ℕ) (props : List (ℕ × Val)) → Leaves P (run_component p c owner props)
+  component_leaves c owner props = then_leaves (record { held = λ w h. (in_turn_leaves (name_subscribed owner) c.stores (name_leaves owner)).held (opened c owner w) (opened_stays c owner w h) }) (λ u. script_leaves owner props c.script)
 
-  pub top_leaves : (p : Program) (i : ℕ) (props : List (ℕ × Val)) → Leaves P (run_top p i props)
-  top_leaves p i props = record { held = λ w h. by w (component_of p w i) refl h } where
-    by : (w : World) (o : Option Component) → component_of p w i ≡ o → P w.states → Left P (run_top p i props w)
+  pub top_leaves : (i : ℕ) (props : List (ℕ × Val)) → Leaves P (run_top p i props)
+  top_leaves i props = record { held = λ w h. by w (component_of p w i) refl h } where
+    by : (w : World) (o : Option Component) → component_of p w i ≡ o → P.ends w.states → Left P (run_top p i props w)
     by w None e h = rw e h
-    by w (Some c) e h = rw e ((component_leaves p c i props).held w h)
+    by w (Some c) e h = rw e ((component_leaves c i props).held w h)
 
   -- ---- reactive statements
 
-  at_leaves : (p : Program) (i : ℕ) (o : Option CodeStmt) → Leaves P (run_at p i o)
-  at_leaves p i None = ends_leaves tt
-  at_leaves p i (Some s) = then_leaves (left_leaves [] (run_keeps stays (world_ground p) (calls p) (calls_keep p) i (inner s))) (λ f. ends_leaves tt)
+  at_leaves : (i : ℕ) (o : Option CodeStmt) → Leaves P (run_at p i o)
+  at_leaves i None = ends_leaves tt
+  at_leaves i (Some s) = then_leaves (left_leaves [] (run_keeps stays (world_ground p) (calls p) calls_keep i (inner s))) (λ f. ends_leaves tt)
 
-  due_leaves : (p : Program) (all : Bool) (i : ℕ) (stmts : List CodeStmt) (r : Run) → Leaves P (run_due p all i stmts r)
-  due_leaves p all i stmts r = record { held = λ w h. by w (is_due all i r w) refl h } where
-    by : (w : World) (b : Bool) → is_due all i r w ≡ b → P w.states → Left P (run_due p all i stmts r w)
-    by w true e h = rw e ((at_leaves p i (slice_get stmts r.stmt)).held w h)
+  due_leaves : (all : Bool) (i : ℕ) (stmts : List CodeStmt) (r : Run) → Leaves P (run_due p all i stmts r)
+  due_leaves all i stmts r = record { held = λ w h. by w (is_due all i r w) refl h } where
+    by : (w : World) (b : Bool) → is_due all i r w ≡ b → P.ends w.states → Left P (run_due p all i stmts r w)
+    by w true e h = rw e ((at_leaves i (slice_get stmts r.stmt)).held w h)
     by w false e h = rw e h
 
-  pub reactive_leaves : (p : Program) (i : ℕ) (all : Bool) → Leaves P (run_reactive p i all)
-  reactive_leaves p i all = record { held = λ w h. by w (component_of p w i) refl h } where
-    by : (w : World) (o : Option Component) → component_of p w i ≡ o → P w.states → Left P (run_reactive p i all w)
+  pub reactive_leaves : (i : ℕ) (all : Bool) → Leaves P (run_reactive p i all)
+  reactive_leaves i all = record { held = λ w h. by w (component_of p w i) refl h } where
+    by : (w : World) (o : Option Component) → component_of p w i ≡ o → P.ends w.states → Left P (run_reactive p i all w)
     by w None e h = rw e h
-    by w (Some c) e h = rw e ((in_turn_leaves (run_due p all i c.script) c.runs (due_leaves p all i c.script)).held w h)
+    by w (Some c) e h = rw e ((in_turn_leaves (run_due p all i c.script) c.runs (due_leaves all i c.script)).held w h)

@@ -7,16 +7,18 @@ use Rattle.std.proofs.lemmas.List.{length-map}
 use Rattle.std.proofs.lemmas.List.Elements.{All-head, All-tail}
 use Rattle.sv_code.specs.declared.program.Program.{Program}
 use Rattle.sv_derived.proofs.Ordering.{ordered-marked, ordered-done}
-use Rattle.sv_derived.specs.Derived.{Recipe, Derived, found, next, is_input, marked_by, marked, done_by, done}
+use Rattle.sv_derived.specs.Derived.{Derived, found, next, is_input, marked_by, marked, done_by, done}
 use Rattle.sv_derived.specs.Order.{ids, AreBelow, IsFormed, IsOrdered}
-use Rattle.sv_frame.proofs.Outcomes.{Left, then_left, answered_leaves}
+use Rattle.sv_frame.proofs.Deriving.{derive-same}
+use Rattle.sv_frame.proofs.Outcomes.{at_ends, Left}
 use Rattle.sv_frame.specs.Settling.{after, first_computed, computed_within, computed_in, computed_at}
-use Rattle.sv_meaning.specs.Derived.{input_values, handed, rejoined, called_apart, derive}
-use Rattle.sv_meaning.specs.Outcome.{Ending, Ends, Fails, Deed, then_do, answered}
+use Rattle.sv_frame.specs.Snapshots.{world_of}
+use Rattle.sv_meaning.specs.Derived.{derive}
+use Rattle.sv_meaning.specs.Outcome.{Ending, Ends, Fails, Deed, then_do}
 use Rattle.sv_meaning.specs.Runs.{settle, calls, each_in_turn}
-use Rattle.sv_meaning.specs.Settling.{Derives, compute, first_settled, settled_within}
+use Rattle.sv_meaning.specs.Settling.{Derives, compute, first_settled, settled_within, settled}
 use Rattle.sv_meaning.specs.declared.limits.TheConstants.{CALL_LIMIT}
-use Rattle.sv_states.specs.Assignment.{changes_in, taken, told, store_set, computed}
+use Rattle.sv_states.specs.Assignment.{changes_in, taken, told, computed}
 use Rattle.sv_states.specs.States.{States, live}
 use Rattle.sv_store.specs.Stores.{Subscriber, subscribers_at, differs_at, with_value}
 use Rattle.sv_value.specs.Value.{Val}
@@ -103,7 +105,7 @@ marked-here id d w e = rw (eq-eqb d.id id e) (unmarked d.is_pending d.is_frozen 
 marked-stays : (id : ℕ) (d : Derived) → IsFormed d → d.id < id → d.is_pending ≡ false → (marked_by id (done_by id d)).is_pending ≡ false
 marked-stays id d w lt b = rw b (unmarked false d.is_frozen (is_input id d) (no-input d.recipe.inputs d.id id w.inputs (omega (arith, lt))))
 
-marked-done : (id : ℕ) (xs : List Derived) → map (λ d. marked_by id (done_by id d)) xs ≡ marked (done xs id) id
+pub marked-done : (id : ℕ) (xs : List Derived) → map (λ d. marked_by id (done_by id d)) xs ≡ marked (done xs id) id
 marked-done id [] = refl
 marked-done id (x ∷ xs) = ap (λ l. marked_by id (done_by id x) ∷ l) (marked-done id xs)
 
@@ -144,74 +146,82 @@ derived-computed Q s id v still more = ⊎_elim
 
 -- ---- settling
 
--- where it ends, this holds of the states
-abbrev EndsIn : (Q : States → Type 0) {A : Type 0} → Ending A → Type 0
-EndsIn Q (Ends a w) = Q w.states
-EndsIn Q (Fails k s w) = Unit {0}
-
-then_ends : (Q R : States → Type 0) {A B : Type 0} (e : Ending A) (go : A → Deed B) → EndsIn Q e → ((a : A) (w : World) → Q w.states → EndsIn R (go a w)) → EndsIn R (then_do e go)
+then_ends : (Q R : States → Type 0) {A B : Type 0} (e : Ending A) (go : A → Deed B) → Left (at_ends Q) e → ((a : A) (w : World) → Q w.states → Left (at_ends R) (go a w)) → Left (at_ends R) (then_do e go)
 then_ends Q R (Ends a w) go h k = k a w h
 then_ends Q R (Fails kind s w) go h k = tt
-
--- what a derived store comes to changes no states
-abbrev Same : States → States → Type 0
-Same old s = s ≡ old
-
-rejoined-same : (w : World) (e : Ending Val) → Left (Same w.states) (rejoined w e)
-rejoined-same w (Ends v w') = refl
-rejoined-same w (Fails k s w') = refl
-
-derive-same : (p : Program) (room owner : ℕ) (r : Recipe) (w : World) → Left (Same w.states) (derive p room owner r w)
-derive-same p room owner r w =
-    then_left (Same w.states) (answered r.span (handed r.takes_list (input_values w.states.stores r.inputs)) w) (called_apart p room owner r)
-    ((answered_leaves r.span (handed r.takes_list (input_values w.states.stores r.inputs))).held w refl)
-    (λ v w' h. subst (λ s. Left (Same s) (called_apart p room owner r v w')) h (rejoined-same w' _))
 
 abbrev now_computed : ℕ → Val → Deed (Unit {0})
 now_computed id v w = Ends tt (record w { states = computed w.states id v })
 
-computes : (Q : States → Type 0) (s : States) (id : ℕ) (e : Ending Val) → Left (Same s) e → ((v : Val) → Q (computed s id v)) → EndsIn Q (then_do e (now_computed id))
-computes Q s id (Ends v w) h k = subst (λ t. Q (computed t id v)) (sym h) (k v)
-computes Q s id (Fails kind at w) h k = tt
-
-compute-ends : (Q : States → Type 0) (p : Program) (room id : ℕ) (w : World) (o : Option Derived) → is_some o ≡ true → ((v : Val) → Q (computed w.states id v)) → EndsIn Q (compute (derive p room) id o w)
+compute-ends : (Q : States → Type 0) (p : Program) (room id : ℕ) (w : World) (o : Option Derived) → is_some o ≡ true
+    → ((d : Derived) (v : Val) (w' : World) → o ≡ Some d → derive p room d.owner d.recipe w ≡ Ends v w' → Q (computed w.states id v)) → Left (at_ends Q) (compute (derive p room) id o w)
 compute-ends Q p room id w None h k = absurd (true≢false (sym h))
-compute-ends Q p room id w (Some d) h k = computes Q w.states id (derive p room d.owner d.recipe w) (derive-same p room d.owner d.recipe w) k
+compute-ends Q p room id w (Some d) h k = by (derive p room d.owner d.recipe w) refl where
+  by : (e : Ending Val) → derive p room d.owner d.recipe w ≡ e → Left (at_ends Q) (then_do e (now_computed id))
+  by (Ends v w') e = subst (λ s. Q (computed s id v)) (sym (subst (λ x. (world_of x).states ≡ w.states) e (derive-same p room d.owner d.recipe w))) (k d v w' refl e)
+  by (Fails kind at w') e = tt
 
-abbrev Settled : States → Type 0
-Settled s = next s.derived ≡ None
+-- what stays true as derived stores are computed
+pub record Computes (p : Program) (I : States → Type 0) : Type 0 where
+  pub ordered : (s : States) → I s → IsOrdered s.derived
+  pub computed : (room : ℕ) (w w' : World) (id : ℕ) (d : Derived) (v : Val) → found w.states.derived id ≡ Some d → derive p room d.owner d.recipe w ≡ Ends v w' → I w.states → I (computed w.states id v)
 
--- what holds in the midst: the first ones are settled, and there are turns for the others
-record Halfway (i room : ℕ) (all : List Derived) : Type 0 where
-  ordered : IsOrdered all
-  clear : Clear i all
-  enough : length all ≤ i + room
+-- and where no derived store is pending
+pub record Settled (I : States → Type 0) (s : States) : Type 0 where
+  pub holds : I s
+  pub idle : next s.derived ≡ None
 
-within-ends : (p : Program) (calls room i : ℕ) (w : World) → Halfway i room w.states.derived → EndsIn Settled (settled_within room (derive p calls) w)
-within-ends p calls zero i w h = let long = h.enough in none-next w.states.derived i (omega (arith, long)) h.clear
-within-ends p calls (suc room) i w h = by (λ w' half. within-ends p calls room (suc i) w' half) (next w.states.derived) refl
-  where
-    all : List Derived
-    all = w.states.derived
+module _ {p : Program} {I : States → Type 0} (computes : Computes p I) where
+  -- what holds in the midst: the first ones are settled, and there are turns for the others
+  record Halfway (i room : ℕ) (s : States) : Type 0 where
+    holds : I s
+    clear : Clear i s.derived
+    enough : length s.derived ≤ i + room
 
-    by : ((w' : World) → Halfway (suc i) room w'.states.derived → EndsIn Settled (settled_within room (derive p calls) w')) → (o : Option ℕ) → next all ≡ o → EndsIn Settled (first_settled o (derive p calls) (settled_within room (derive p calls)) w)
-    by rest None e = e
-    by rest (Some id) e =
-        let long = h.enough in
-        let k = length-map all (done_by id) in
-        let l = length-map (done all id) (marked_by id) in
-        then_ends (λ s. Halfway (suc i) room s.derived) Settled (compute (derive p calls) id (found all id) w) (λ u. settled_within room (derive p calls))
-        (compute-ends (λ s. Halfway (suc i) room s.derived) p calls id w (found all id) (found-next all id e)
-        (λ v. derived-computed (Halfway (suc i) room) w.states id v
-        (record { ordered = ordered-done all id h.ordered; clear = clear-done i id all h.ordered h.clear e; enough = omega (arith, long, k) })
-        (record { ordered = ordered-marked (done all id) id (ordered-done all id h.ordered); clear = clear-marked i id all h.ordered h.clear e; enough = omega (arith, long, k, l) })))
-        (λ u w' half. rest w' half)
+  halfway-computed : (i room id : ℕ) (s : States) (v : Val) → next s.derived ≡ Some id → Halfway i (suc room) s → I (computed s id v) → Halfway (suc i) room (computed s id v)
+  halfway-computed i room id s v e h holds =
+      let all : List Derived = s.derived in
+      let k = computes.ordered s h.holds in
+      let long = h.enough in
+      let a = length-map all (done_by id) in
+      let b = length-map (done all id) (marked_by id) in
+      record {
+        holds = holds;
+        clear = derived-computed (Clear (suc i)) s id v (clear-done i id all k h.clear e) (clear-marked i id all k h.clear e);
+        enough = derived-computed (λ ds. length ds ≤ suc i + room) s id v (omega (arith, long, a)) (omega (arith, long, a, b));
+      }
 
-ends_in : (Q : States → Type 0) (e : Ending (Unit {0})) (w : World) → e ≡ Ends tt w → EndsIn Q e → Q w.states
-ends_in Q e w is h = subst (EndsIn Q) is h
+  within-ends : (calls room i : ℕ) (w : World) → Halfway i room w.states → Left (at_ends (Settled I)) (settled_within room (derive p calls) w)
+  within-ends calls zero i w h = let long = h.enough in record { holds = h.holds; idle = none-next w.states.derived i (omega (arith, long)) h.clear }
+  within-ends calls (suc room) i w h = by (λ w' half. within-ends calls room (suc i) w' half) (next w.states.derived) refl
+    where
+      all : List Derived
+      all = w.states.derived
+
+      by : ((w' : World) → Halfway (suc i) room w'.states → Left (at_ends (Settled I)) (settled_within room (derive p calls) w')) → (o : Option ℕ) → next all ≡ o
+          → Left (at_ends (Settled I)) (first_settled o (derive p calls) (settled_within room (derive p calls)) w)
+      by rest None e = record { holds = h.holds; idle = e }
+      by rest (Some id) e =
+          then_ends (Halfway (suc i) room) (Settled I) (compute (derive p calls) id (found all id) w) (λ u. settled_within room (derive p calls))
+          (compute-ends (Halfway (suc i) room) p calls id w (found all id) (found-next all id e)
+          (λ d v w' there gave. halfway-computed i room id w.states v e h (computes.computed calls w w' id d v there gave h.holds)))
+          (λ u w' half. rest w' half)
+
+  pub settles-all : (calls : ℕ) (w : World) → I w.states → Left (at_ends (Settled I)) (settled (derive p calls) w)
+  settles-all calls w h = within-ends calls (length w.states.derived) 0 w (record { holds = h; clear = tt; enough = omega arith })
+
+ends_in : (Q : States → Type 0) (e : Ending (Unit {0})) (w : World) → e ≡ Ends tt w → Left (at_ends Q) e → Q w.states
+ends_in Q e w is h = subst (Left (at_ends Q)) is h
+
+-- the order alone
+order_stays : (p : Program) → Computes p (λ s. IsOrdered s.derived)
+order_stays p = record {
+  ordered = λ s h. h;
+  computed = λ room w w' id d v there gave h. derived-computed IsOrdered w.states id v (ordered-done w.states.derived id h) (ordered-marked (done w.states.derived id) id (ordered-done w.states.derived id h));
+}
 
 pub settles : (p : Program) (w w' : World) → IsOrdered w.states.derived → settle p w ≡ Ends tt w' → next w'.states.derived ≡ None
-settles p w w' k is = ends_in Settled (settle p w) w' is (within-ends p CALL_LIMIT (length w.states.derived) 0 w (record { ordered = k; clear = tt; enough = omega arith }))
+settles p w w' k is = (ends_in (Settled (λ s. IsOrdered s.derived)) (settle p w) w' is (settles-all (order_stays p) CALL_LIMIT w k)).idle
 
 -- ---- nothing but what is computed
 
@@ -294,7 +304,7 @@ record Between (n : ℕ) (all : List Derived) : Type 0 where
   ordered : IsOrdered all
   low : Low n all
 
-after-rises : (Q : States → Type 0) (n : ℕ) (e : Ending (Unit {0})) (rest : World → List ℕ) → EndsIn Q e → ((w : World) → Q w.states → RisesFrom n (rest w)) → RisesFrom n (after e rest)
+after-rises : (Q : States → Type 0) (n : ℕ) (e : Ending (Unit {0})) (rest : World → List ℕ) → Left (at_ends Q) e → ((w : World) → Q w.states → RisesFrom n (rest w)) → RisesFrom n (after e rest)
 after-rises Q n (Ends u w) rest h k = k w h
 after-rises Q n (Fails kind s w) rest h k = tt
 
@@ -311,7 +321,7 @@ within-rises p calls (suc room) n w h = by (λ m w' half. within-rises p calls r
       low-next all n id h.low e,
       after-rises (λ s. Between (suc id) s.derived) (suc id) (compute (derive p calls) id (found all id) w) (computed_within room (derive p calls))
           (compute-ends (λ s. Between (suc id) s.derived) p calls id w (found all id) (found-next all id e)
-          (λ v. derived-computed (Between (suc id)) w.states id v
+          (λ d v w' there gave. derived-computed (Between (suc id)) w.states id v
           (record { ordered = ordered-done all id h.ordered; low = low-done id all h.ordered e })
           (record { ordered = ordered-marked (done all id) id (ordered-done all id h.ordered); low = low-marked id all h.ordered e })))
           (λ w' half. rest (suc id) w' half),

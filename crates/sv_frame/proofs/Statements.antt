@@ -9,32 +9,33 @@ use Rattle.sv_code.specs.declared.functions.CodeStmt.{CodeStmt, CodeStmt-F, roll
 use Rattle.sv_code.specs.declared.functions.CodeStmtKind.{CodeStmtKind, CodeStmtKind-F, roll-CodeStmtKind, map-CodeStmtKind, fold-roll-CodeStmtKind}
 use Rattle.sv_code.specs.declared.known.Known.{Known}
 use Rattle.sv_code.specs.declared.known.Known.TheVariants as known
-use Rattle.sv_frame.proofs.Outcomes.{Stays, Keeps, Leaves, if_left, then_held, then_keeps, done_keeps, failed_keeps, either_keeps, counted_keeps, ends_leaves, fails_leaves, doing_keeps}
-use Rattle.sv_frame.proofs.Values.{Each, each_made, Maybe, CallerKeeps, expr_keeps}
+use Rattle.sv_code.specs.declared.program.Program.{Program}
+use Rattle.sv_frame.proofs.Outcomes.{Fact, Stays, Keeps, Leaves, if_left, then_held, then_keeps, done_keeps, failed_keeps, either_keeps, counted_keeps, ends_leaves, doing_keeps}
+use Rattle.sv_frame.proofs.Values.{Each, each_made, Maybe, expr_keeps}
+use Rattle.sv_frame.proofs.Calls.{CallerKeeps}
 use Rattle.sv_meaning.specs.Calls.{Caller}
 use Rattle.sv_meaning.specs.Env.{Env, opened}
-use Rattle.sv_meaning.specs.Outcome.{Ends, Fails, Done, Meaning, Flow, Next, Broken, Continued, Returned}
+use Rattle.sv_meaning.specs.Outcome.{Fails, Done, Meaning, Flow, Next, Broken, Continued, Returned}
 use Rattle.sv_meaning.specs.Sight.{Ground}
 use Rattle.sv_meaning.specs.Statements.{value_or, constant_set, initialized, variable, may_show, subscribe, subscribe_if, declare, go_on, in_order, after_turn, tested, turns, loop, scoped, item_turns, over_list, each_step, otherwise, for_step, Doing, Silent, Counts, done, Arm, first_of, valued, decl_of, stmt_kind_step, stmt_step, arm_step, run, doing_of, arm_of}
 use Rattle.sv_meaning.specs.Values.{value}
 use Rattle.sv_ops.specs.declared.faults.FaultKind.TheVariants.{NotAList, NotAStore, Steps}
-use Rattle.sv_states.specs.States.{States}
 use Rattle.sv_value.specs.Change.{truthy}
 use Rattle.sv_value.specs.Value.{Val, undefined, null, boolean, number, text, list, object, function, store, items}
 use Rattle.sv_world.specs.declared.world.World.{World}
 
-module _ {P : States → Type 0} (stays : Stays P) where
+module _ {p : Program} {P : Fact} (stays : Stays p P) where
   -- ---- declarations
 
   pub value_or_keeps : (o : Option (Meaning Val)) → Maybe (Keeps P) o → Keeps P (value_or o)
   value_or_keeps None h = done_keeps undefined
   value_or_keeps (Some m) h = h
 
-  if_stays : (b : Bool) (x y : World) → P x.states → P y.states → P (if b then x else y).states
+  if_stays : (b : Bool) (x y : World) → P.ends x.states → P.ends y.states → P.ends (if b then x else y).states
   if_stays true x y h k = h
   if_stays false x y h k = k
 
-  pub constant_stays : (owner file n : ℕ) (v : Val) (w : World) → P w.states → P (constant_set owner file n v w).states
+  pub constant_stays : (owner file n : ℕ) (v : Val) (w : World) → P.ends w.states → P.ends (constant_set owner file n v w).states
   constant_stays owner file n v w h = if_stays (nat_eq owner 0) _ _ h (stays.left w.states (λ u. record u { constants = slice_set u.constants n (Some v) }) owner h)
 
   initialized_keeps : (owner : ℕ) (x : Known) (s : Span) (v : Val) → Keeps P (initialized owner x s v)
@@ -48,7 +49,7 @@ module _ {P : States → Type 0} (stays : Stays P) where
   initialized_keeps owner (known.BuiltIn b) s v = done_keeps v
 
   pub subscribe_leaves : (owner cell : ℕ) (source : Option ℕ) (s : Span) (v : Val) → Leaves P (subscribe owner cell source s v)
-  subscribe_leaves owner cell source s v = record { held = λ w h. if_left P (may_show source v) _ (Fails NotAStore s w) (stays.subscribed w.states (record { inst = owner; cell = cell }) source v h) h }
+  subscribe_leaves owner cell source s v = record { held = λ w h. if_left P (may_show source v) _ (Fails NotAStore s w) (stays.subscribed w.states (record { inst = owner; cell = cell }) source v h) (P.weaker w.states h) }
 
   subscribe_if_leaves : (o : Option ℕ) (owner : ℕ) (source : Option ℕ) (s : Span) (v : Val) → Leaves P (subscribe_if o owner source s v)
   subscribe_if_leaves None owner source s v = ends_leaves tt
@@ -133,7 +134,7 @@ module _ {P : States → Type 0} (stays : Stays P) where
   arms_keep [] last h l = otherwise_keeps last l
   arms_keep (a ∷ arms) last h l = then_keeps h.0.0 (λ v. either_keeps (truthy v) h.0.1 (arms_keep arms last h.1 l))
 
-  module _ (g : Ground) (call : Caller) (calls : CallerKeeps P call) (owner : ℕ) where
+  module _ (g : Ground) (call : Caller) (calls : CallerKeeps p P call) (owner : ℕ) where
     pub valued_keeps : (o : Option Code) → Maybe (Keeps P) (valued g call owner o)
     valued_keeps None = tt
     valued_keeps (Some c) = expr_keeps stays g call calls owner c

@@ -1,5 +1,5 @@
 -- What stays true of the states while expressions are evaluated.
-use Rattle.std.proofs.Common.{◌≡◌, ℕ, zero, suc, sym, subst, Bool, true, false, List, [], ◌∷◌, ◌++◌, map, length, Option, Some, None, is_some, slice_get, if◌then◌else◌}
+use Rattle.std.proofs.Common.{◌≡◌, ℕ, sym, subst, Bool, true, false, List, [], ◌∷◌, ◌++◌, map, length, Option, Some, None, is_some, slice_get, if◌then◌else◌}
 use Rattle.std.specs.Prelude.{not, ◌&&◌}
 use Rattle.sv_ast.specs.declared.operators.AssignOp.{AssignOp}
 use Rattle.sv_ast.specs.declared.operators.AssignOp.TheVariants as assign
@@ -11,7 +11,6 @@ use Rattle.sv_code.specs.declared.code.CodeField.{CodeField, CodeField-F, roll-C
 use Rattle.sv_code.specs.declared.code.CodeItem.{CodeItem, CodeItem-F, roll-CodeItem, map-CodeItem, fold-roll-CodeItem}
 use Rattle.sv_code.specs.declared.code.CodeKind.{CodeKind, CodeKind-F, roll-CodeKind, map-CodeKind, fold-roll-CodeKind}
 use Rattle.sv_code.specs.declared.code.CodeLink.{CodeLink, CodeLink-F, roll-CodeLink, map-CodeLink, fold-roll-CodeLink}
-use Rattle.sv_code.specs.declared.functions.TheConstants.{WRITABLE}
 use Rattle.sv_code.specs.declared.known.BuiltIn.{BuiltIn}
 use Rattle.sv_code.specs.declared.known.BuiltIn.TheVariants as built
 use Rattle.sv_code.specs.declared.known.Known.{Known}
@@ -22,36 +21,28 @@ use Rattle.sv_code.specs.declared.known.Method.{Method}
 use Rattle.sv_code.specs.declared.known.Method.TheVariants as method
 use Rattle.sv_code.specs.declared.known.Property.{Property}
 use Rattle.sv_code.specs.declared.program.Program.{Program}
-use Rattle.sv_derived.specs.Derived.{Recipe, Derived, found, next}
-use Rattle.sv_frame.proofs.Outcomes.{Stays, Keeps, Leaves, Held, if_left, unless_left, then_keeps, done_keeps, failed_keeps, either_keeps, counted_keeps, then_leaves, ends_leaves, fails_leaves, if_leaves, given_leaves, spent_leaves, answered_leaves, doing_keeps, kept_keeps, answered_keeps}
+use Rattle.sv_frame.proofs.Calls.{CallerKeeps, read_keeps, set_keeps, value_leaves, on_list_leaves, on_store_leaves, derived_leaves, make_leaves, log_leaves}
+use Rattle.sv_frame.proofs.Outcomes.{Fact, Stays, Keeps, Leaves, if_left, then_keeps, done_keeps, failed_keeps, either_keeps, counted_keeps, ends_leaves, fails_leaves, given_leaves, spent_leaves, answered_leaves, doing_keeps, kept_keeps, answered_keeps}
 use Rattle.sv_instance.specs.Callbacks.{with_callback}
 use Rattle.sv_instance.specs.declared.callbacks.When.{When}
 use Rattle.sv_instance.specs.declared.callbacks.When.TheVariants as when
-use Rattle.sv_meaning.specs.Calls.{Caller, call_value, first, second, is_function, is_on_list, is_on_text, is_on_store, is_of_math, takes_function, resumed, visited, start, visit_from, visit_with, store_put, set_store, update_store, make_store, make_computed, recipe_in, make_derived, list_answer, on_list, on_text, on_store, of_math, log_line, log_texts, log}
-use Rattle.sv_meaning.specs.Env.{Env, look}
-use Rattle.sv_meaning.specs.Outcome.{Ends, Fails, Meaning, Deed, and_then, either}
-use Rattle.sv_meaning.specs.Settling.{Derives as Deriving, compute, first_settled, settled_within, settled}
-use Rattle.sv_meaning.specs.Sight.{Ground, cell_seen, constant_seen, modules_seen, read, local_set, cell_assigned, cell_put, put, may_change, set}
+use Rattle.sv_meaning.specs.Calls.{Caller, first, second, is_function, is_on_list, is_on_text, is_on_store, is_of_math, on_text, on_store, of_math}
+use Rattle.sv_meaning.specs.Outcome.{Fails, Meaning, Deed, and_then, either}
+use Rattle.sv_meaning.specs.Sight.{Ground, read}
 use Rattle.sv_meaning.specs.Values.{Puts, Link, Callee, Plain, Lives, Stores, Derives, Converts, On, Ratio, Expr, plain, all_after, all_values, with_args, texts_after, template_step, word_of, member_of, put_all, put_one, item_step, field_step, parts_after, link_step, linked, chained, chain, dividing, last_division, arrow, updated, assign_step, bump_step, call_at, keyed, life_call, convert, rounds, is_one, divide, math_call, ratio_or, divided_or, built_call, field_call, value_call, named_call, method_call, call_step, callee_of, kind_step, code_step, expr_of, kind_of, item_of, field_of, link_of, value}
 use Rattle.sv_ops.specs.Answer.{spelled, text_made, list_made, object_made, function_made}
 use Rattle.sv_ops.specs.Members.{Spread, Takes, TakesNone, spread, spread_fields, or_undefined, index}
 use Rattle.sv_ops.specs.Numbers.{bumped, negated, quotient}
 use Rattle.sv_ops.specs.Operators.{binary, stops, assigned}
-use Rattle.sv_ops.specs.Texts.{between, line_of, texts_of}
-use Rattle.sv_ops.specs.Visits.{Turn, Ends as Stops, Puts as PutsIn, Passes, Holds, turn, arguments, finish}
-use Rattle.sv_ops.specs.declared.faults.FaultKind.TheVariants.{NotAFunction, NotAStore, NoMember, NotText, BadKey, UseBeforeInit}
-use Rattle.sv_states.specs.Assignment as states
-use Rattle.sv_states.specs.Refusal.{assign_refusal, store_refusal}
-use Rattle.sv_states.specs.States.{States, is_derived}
+use Rattle.sv_ops.specs.Texts.{between}
+use Rattle.sv_ops.specs.declared.faults.FaultKind.TheVariants.{NotAFunction, NoMember, NotText, BadKey}
+use Rattle.sv_states.specs.States.{is_derived}
 use Rattle.sv_value.specs.Change.{truthy}
 use Rattle.sv_value.specs.Key.{key_of}
 use Rattle.sv_value.specs.Object.{get}
-use Rattle.sv_value.specs.Value.{Val, Vals, undefined, null, boolean, number, text, list, object, function, store, items}
+use Rattle.sv_value.specs.Value.{Val, undefined, null, boolean, number, text, list, object, function, store, items}
 use Rattle.sv_value.specs.Words.{text_of}
 use Rattle.sv_value.specs.declared.key.Key.{Key}
-use Rattle.sv_view.specs.Level.{View}
-use Rattle.sv_view.specs.Constants.{module_constant_at}
-use Rattle.sv_world.specs.declared.world.World.{World}
 
 -- a fact of each of some things
 abbrev pub Each : {A : Type 0} → (A → Type 0) → List A → Type 0
@@ -68,16 +59,7 @@ abbrev pub Maybe : {A : Type 0} → (A → Type 0) → Option A → Type 0
 Maybe Q None = Unit {0}
 Maybe Q (Some x) = Q x
 
-module _ (P : States → Type 0) where
-  -- computing a derived store keeps it true
-  abbrev pub DerivesKeep : Deriving → Type 0
-  DerivesKeep derives = (owner : ℕ) (r : Recipe) → Leaves P (derives owner r)
-
-  -- calls keep it true, whatever is called, and so does what derived stores come to
-  pub record CallerKeeps (call : Caller) : Type 0 where
-    pub called : (c o : ℕ) (held : Vals) (args : List Val) (s : Span) → Leaves P (call.calls c o held args s)
-    pub derived : DerivesKeep call.derives
-
+module _ (P : Fact) where
   abbrev pub PutsKeep : {A : Type 0} → Puts A → Type 0
   PutsKeep {A = A} p = (s : Span) (made : List A) → Keeps P (p s made)
 
@@ -96,134 +78,7 @@ module _ (P : States → Type 0) where
   abbrev pub LinkKeeps : Link → Type 0
   LinkKeeps l = Keeps P l.right
 
-module _ {P : States → Type 0} (stays : Stays P) where
-  -- ---- names
-
-  read_keeps : (g : Ground) (owner : ℕ) (x : Known) (s : Span) → Keeps P (read g owner x s)
-  read_keeps g owner (known.Local x) s = kept_keeps (λ env. given_leaves UseBeforeInit s (look x.0 env))
-  read_keeps g owner (known.Cell n) s = doing_keeps (record { held = λ w h. (given_leaves UseBeforeInit s (cell_seen g.sight g.is_own owner n w)).held w h })
-  read_keeps g owner (known.Constant n) s = doing_keeps (record { held = λ w h. (given_leaves UseBeforeInit s (constant_seen g.sight owner s.file n w)).held w h })
-  read_keeps g owner (known.Export file n) s = doing_keeps (record { held = λ w h. (given_leaves UseBeforeInit s (module_constant_at (modules_seen g.sight w) file n)).held w h })
-  read_keeps g owner known.Writable s = answered_keeps s (function_made WRITABLE 0 [])
-  read_keeps g owner known.Derived s = done_keeps undefined
-  read_keeps g owner (known.Life l) s = done_keeps undefined
-  read_keeps g owner (known.BuiltIn b) s = done_keeps undefined
-
-  local_held : (o : Option Val) (x : ℕ) (v : Val) (s : Span) (env : Env) (w : World) → P w.states → Held P (local_set o x v s env w)
-  local_held None x v s env w h = h
-  local_held (Some old) x v s env w h = h
-
-  assigned_leaves : (sight : Option View) (owner n : ℕ) (v : Val) (s : Span) → Leaves P (cell_assigned sight owner n v s)
-  assigned_leaves None owner n v s = record { held = λ w h. unless_left P (assign_refusal w.states owner n v) s (λ w'. Ends v (record w' { states = states.assigned w'.states owner n v })) w h (stays.assigned w.states owner n v h) }
-  assigned_leaves (Some view) owner n v s = ends_leaves v
-
-  cell_keeps : (o : Option Val) (g : Ground) (owner n : ℕ) (v : Val) (s : Span) → Keeps P (cell_put o g owner n v s)
-  cell_keeps None g owner n v s = failed_keeps UseBeforeInit s
-  cell_keeps (Some old) g owner n v s = doing_keeps (assigned_leaves g.sight owner n v s)
-
-  put_keeps : (g : Ground) (owner : ℕ) (x : Known) (v : Val) (s : Span) → Keeps P (put g owner x v s)
-  put_keeps g owner (known.Local x) v s = record { held = λ env w h. local_held (look x.0 env) x.0 v s env w h }
-  put_keeps g owner (known.Cell n) v s = record { held = λ env w h. (cell_keeps (cell_seen g.sight g.is_own owner n w) g owner n v s).held env w h }
-  put_keeps g owner (known.Constant n) v s = done_keeps v
-  put_keeps g owner (known.Export file n) v s = done_keeps v
-  put_keeps g owner known.Writable v s = done_keeps v
-  put_keeps g owner known.Derived v s = done_keeps v
-  put_keeps g owner (known.Life l) v s = done_keeps v
-  put_keeps g owner (known.BuiltIn b) v s = done_keeps v
-
-  -- ---- settling
-
-  module _ (derives : Deriving) (k : DerivesKeep P derives) where
-    compute_leaves : (id : ℕ) (o : Option Derived) → Leaves P (compute derives id o)
-    compute_leaves id None = ends_leaves tt
-    compute_leaves id (Some d) = then_leaves (k d.owner d.recipe) (λ v. record { held = λ w h. stays.computed w.states id v h })
-
-    first_leaves : (o : Option ℕ) {rest : Deed (Unit {0})} → Leaves P rest → Leaves P (first_settled o derives rest)
-    first_leaves None l = ends_leaves tt
-    first_leaves (Some id) l = then_leaves (record { held = λ w h. (compute_leaves id (found w.states.derived id)).held w h }) (λ u. l)
-
-    within_leaves : (n : ℕ) → Leaves P (settled_within n derives)
-    within_leaves zero = ends_leaves tt
-    within_leaves (suc n) = record { held = λ w h. (first_leaves (next w.states.derived) (within_leaves n)).held w h }
-
-    pub settled_leaves : Leaves P (settled derives)
-    settled_leaves = record { held = λ w h. (within_leaves (length w.states.derived)).held w h }
-
-    changed_leaves : (b : Bool) → Leaves P (λ w. if b then settled derives w else Ends tt w)
-    changed_leaves b = record { held = λ w h. if_left P b (settled derives w) (Ends tt w) (settled_leaves.held w h) h }
-
-  -- ---- calls
-
-  module _ (call : Caller) (calls : CallerKeeps P call) where
-    pub value_leaves : (s : Span) (f : Val) (args : List Val) → Leaves P (call_value call s f args)
-    value_leaves s (function c o held) args = calls.called c o held args s
-    value_leaves s undefined args = fails_leaves NotAFunction s
-    value_leaves s null args = fails_leaves NotAFunction s
-    value_leaves s (boolean b) args = fails_leaves NotAFunction s
-    value_leaves s (number n) args = fails_leaves NotAFunction s
-    value_leaves s (text t) args = fails_leaves NotAFunction s
-    value_leaves s (list vs) args = fails_leaves NotAFunction s
-    value_leaves s (object fs) args = fails_leaves NotAFunction s
-    value_leaves s (store id) args = fails_leaves NotAFunction s
-
-    resumed_leaves : (s : Span) (made : List Val) (held : Val) (t : Turn) {go : List Val → Val → Deed Val} → ((made : List Val) (held : Val) → Leaves P (go made held)) → Leaves P (resumed s made held t go)
-    resumed_leaves s made held (Stops v) k = ends_leaves v
-    resumed_leaves s made held (PutsIn v) k = spent_leaves 1 s (k (made ++ v ∷ []) held)
-    resumed_leaves s made held Passes k = k made held
-    resumed_leaves s made held (Holds v) k = k made v
-
-    visited_leaves : (m : Method) (s : Span) (f : Val) (made : List Val) (held : Val) (n : ℕ) (vs : List Val) → Leaves P (visited call m s f made held n vs)
-    visited_leaves m s f made held n [] = answered_leaves s (finish m made held)
-    visited_leaves m s f made held n (v ∷ vs) =
-        then_leaves (value_leaves s f (arguments m held v n)) (λ gave. resumed_leaves s made held (turn m gave v n) (λ made' held'. visited_leaves m s f made' held' (suc n) vs))
-
-    from_leaves : (o : Option Val) (m : Method) (s : Span) (vs : List Val) (f : Val) → Leaves P (visit_from o call m s vs f)
-    from_leaves None m s vs f = fails_leaves NoMember s
-    from_leaves (Some held) m s vs f = visited_leaves m s f [] held 0 vs
-
-    with_leaves : (b : Bool) (m : Method) (s : Span) (vs args : List Val) → Leaves P (visit_with b call m s vs args)
-    with_leaves false m s vs args = fails_leaves NotAFunction s
-    with_leaves true m s vs args = from_leaves (start m args) m s vs (first args)
-
-    on_list_leaves : (m : Method) (s : Span) (vs args : List Val) → Leaves P (on_list m call s vs args)
-    on_list_leaves m s vs args = if_leaves (takes_function m) (with_leaves (is_function (first args)) m s vs args) (answered_leaves s (list_answer m vs args))
-
-    store_leaves : (s : Span) (id : ℕ) (v : Val) → Leaves P (store_put s id v)
-    store_leaves s id v = record { held = λ w h. unless_left P (store_refusal w.states id) s (λ w'. Ends tt (record w' { states = states.store_set w'.states id v })) w h (stays.store_set w.states id v h) }
-
-    set_leaves : (s : Span) (id : ℕ) (v : Val) → Leaves P (set_store call s id v)
-    set_leaves s id v = then_leaves (store_leaves s id v) (λ u. then_leaves (settled_leaves call.derives calls.derived) (λ t. ends_leaves undefined))
-
-    pub set_keeps : (g : Ground) (owner : ℕ) (x : Known) (v : Val) (s : Span) → Keeps P (set g call owner x v s)
-    set_keeps g owner x v s = then_keeps (put_keeps g owner x v s) (λ u. doing_keeps (then_leaves (changed_leaves call.derives calls.derived (may_change g.sight x)) (λ t. ends_leaves u)))
-
-    update_leaves : (b : Bool) (s : Span) (id : ℕ) (f : Val) → Leaves P (update_store b call s id f)
-    update_leaves false s id f = fails_leaves NotAFunction s
-    update_leaves true s id f = then_leaves (record { held = λ w h. (value_leaves s f _).held w h }) (set_leaves s id)
-
-    on_store_leaves : (m : Method) (s : Span) (id : ℕ) (args : List Val) → Leaves P (on_store m call s id args)
-    on_store_leaves method.Set s id args = set_leaves s id (first args)
-    on_store_leaves _ s id args = update_leaves (is_function (first args)) s id (first args)
-
-    computed_leaves : (owner : ℕ) (r : Recipe) → Leaves P (make_computed call owner r)
-    computed_leaves owner r = then_leaves (calls.derived owner r) (λ v. record { held = λ w h. stays.with_derived w.states owner r v h })
-
-    derived_leaves : (p : Program) (owner : ℕ) (s : Span) (args : List Val) → Leaves P (make_derived p call owner s args)
-    derived_leaves p owner s args = then_leaves (record { held = λ w h. (given_leaves NotAStore s (recipe_in p s args w.states.stores)).held w h }) (computed_leaves owner)
-
-  pub make_leaves : (v : Val) → Leaves P (make_store v)
-  make_leaves v = record { held = λ w h. stays.with_store w.states v h }
-
-  line_leaves : (s : Span) (line : List ℕ) → Leaves P (log_line s line)
-  line_leaves s line = spent_leaves (length line) s (record { held = λ w h. h })
-
-  texts_leaves : (s : Span) (o : Option (List (List ℕ))) → Leaves P (log_texts s o)
-  texts_leaves s None = fails_leaves NotText s
-  texts_leaves s (Some ts) = line_leaves s (line_of ts)
-
-  log_leaves : (s : Span) (args : List Val) → Leaves P (log s args)
-  log_leaves s args = texts_leaves s (texts_of args)
-
+module _ {p : Program} {P : Fact} (stays : Stays p P) where
   -- ---- parts
 
   all_after_keep : (vs : List Val) (ms : List (Meaning Val)) → Each (Keeps P) ms → Keeps P (all_after vs ms)
@@ -286,25 +141,25 @@ module _ {P : States → Type 0} (stays : Stays P) where
 
   -- ---- assignments
 
-  module _ (g : Ground) (call : Caller) (calls : CallerKeeps P call) where
+  module _ (g : Ground) (call : Caller) (calls : CallerKeeps p P call) where
     updated_keeps : (owner : ℕ) (x : Known) (at : Span) (o : AssignOp) (s : Span) (a : Val) {m : Meaning Val} → Keeps P m → Keeps P (updated g call owner x at o s a m)
-    updated_keeps owner x at o s a k = then_keeps k (λ b. then_keeps (answered_keeps s (assigned o a b)) (λ v. set_keeps call calls g owner x v at))
+    updated_keeps owner x at o s a k = then_keeps k (λ b. then_keeps (answered_keeps s (assigned o a b)) (λ v. set_keeps stays call calls g owner x v at))
 
     changing_keeps : (owner : ℕ) (x : Known) (at : Span) (o : AssignOp) (s : Span) {m : Meaning Val} → Keeps P m → Keeps P (λ env w. and_then (read g owner x at env w) (λ a. updated g call owner x at o s a m))
-    changing_keeps owner x at o s k = then_keeps (read_keeps g owner x at) (λ a. updated_keeps owner x at o s a k)
+    changing_keeps owner x at o s k = then_keeps (read_keeps stays g owner x at) (λ a. updated_keeps owner x at o s a k)
 
     assign_keeps : (o : AssignOp) (owner : ℕ) (x : Known) (at s : Span) {m : Meaning Val} → Keeps P m → Keeps P (assign_step o g call owner x at s m)
-    assign_keeps assign.Set owner x at s k = then_keeps k (λ v. set_keeps call calls g owner x v at)
+    assign_keeps assign.Set owner x at s k = then_keeps k (λ v. set_keeps stays call calls g owner x v at)
     assign_keeps o owner x at s k = changing_keeps owner x at o s k
 
     bump_keeps : (owner : ℕ) (x : Known) (at : Span) (up prefix : Bool) (s : Span) → Keeps P (bump_step g call owner x at up prefix s)
     bump_keeps owner x at up prefix s =
-        then_keeps (read_keeps g owner x at) (λ a. then_keeps (answered_keeps s (bumped up a)) (λ v. then_keeps (set_keeps call calls g owner x v at) (λ u. done_keeps (if prefix then v else a))))
+        then_keeps (read_keeps stays g owner x at) (λ a. then_keeps (answered_keeps s (bumped up a)) (λ v. then_keeps (set_keeps stays call calls g owner x v at) (λ u. done_keeps (if prefix then v else a))))
 
   -- ---- what `svelte` gives
 
   at_leaves : (at : When) (owner : ℕ) (s : Span) (f : Val) → Leaves P (call_at at owner s f)
-  at_leaves at owner s f = record { held = λ w h. if_left P (is_function f) _ (Fails NotAFunction s w) (stays.left w.states (λ u. record u { callbacks = with_callback at f u.callbacks }) owner h) h }
+  at_leaves at owner s f = record { held = λ w h. if_left P (is_function f) _ (Fails NotAFunction s w) (stays.left w.states (λ u. record u { callbacks = with_callback at f u.callbacks }) owner h) (P.weaker w.states h) }
 
   keyed_leaves : (o : Option Key) (s : Span) {go : Key → Deed Val} → ((k : Key) → Leaves P (go k)) → Leaves P (keyed o s go)
   keyed_leaves None s k = fails_leaves BadKey s
@@ -339,7 +194,7 @@ module _ {P : States → Type 0} (stays : Stays P) where
   divided_keeps None m s at args h = math_keeps m s at args h
 
   log_keeps : (m : Option Method) (s at : Span) (args : List Expr) → Each (ExprKeeps P) args → Keeps P (built_call built.Console m s at args)
-  log_keeps (Some method.Log) s at args h = args_keep args h (log_leaves s)
+  log_keeps (Some method.Log) s at args h = args_keep args h (log_leaves stays s)
   log_keeps None s at args h = failed_keeps NoMember at
   log_keeps (Some _) s at args h = failed_keeps NoMember at
 
@@ -353,21 +208,21 @@ module _ {P : States → Type 0} (stays : Stays P) where
   named_keeps None args h k = done_keeps undefined
   named_keeps (Some m) args h k = args_keep args h (k m)
 
-  module _ (g : Ground) (call : Caller) (calls : CallerKeeps P call) where
+  module _ (g : Ground) (call : Caller) (calls : CallerKeeps p P call) where
     field_leaves : (b : Bool) (s : Span) (f : Val) (vs : List Val) → Leaves P (field_call b call s f vs)
     field_leaves true s f vs = fails_leaves NotAFunction s
-    field_leaves false s f vs = value_leaves call calls s f vs
+    field_leaves false s f vs = value_leaves stays call calls s f vs
 
     value_call_keeps : (v : Val) (p : Property) (s at : Span) (args : List Expr) → Each (ExprKeeps P) args → Keeps P (value_call g call v p s at args)
-    value_call_keeps v p s at args h = then_keeps (answered_keeps at (member_of p.method v (word_of g p))) (λ f. args_keep args h (value_leaves call calls s f))
+    value_call_keeps v p s at args h = then_keeps (answered_keeps at (member_of p.method v (word_of g p))) (λ f. args_keep args h (value_leaves stays call calls s f))
 
     method_keeps : (p : Property) (s at : Span) (args : List Expr) → Each (ExprKeeps P) args → (v : Val) → Keeps P (method_call g call p s at args v)
     method_keeps p s at args h (object fs) = args_keep args h (field_leaves (is_some g.sight) s (or_undefined (get fs (word_of g p))))
-    method_keeps p s at args h (list vs) = either_keeps (is_one is_on_list p.method) (named_keeps p.method args h (λ m. on_list_leaves call calls m s (items vs))) (value_call_keeps (list vs) p s at args h)
+    method_keeps p s at args h (list vs) = either_keeps (is_one is_on_list p.method) (named_keeps p.method args h (λ m. on_list_leaves stays call calls m s (items vs))) (value_call_keeps (list vs) p s at args h)
     method_keeps p s at args h (text t) = either_keeps (is_one is_on_text p.method) (named_keeps p.method args h (λ m us. answered_leaves s (on_text m t us))) (value_call_keeps (text t) p s at args h)
     method_keeps p s at args h (store id) = record { held = λ env w k. (store_keeps (is_one is_on_store p.method && not (is_derived w.states id))).held env w k } where
       store_keeps : (b : Bool) → Keeps P (either b (named_call p.method args (λ m. on_store m call s id)) (value_call g call (store id) p s at args))
-      store_keeps b = either_keeps b (named_keeps p.method args h (λ m. on_store_leaves call calls m s id)) (value_call_keeps (store id) p s at args h)
+      store_keeps b = either_keeps b (named_keeps p.method args h (λ m. on_store_leaves stays call calls m s id)) (value_call_keeps (store id) p s at args h)
     method_keeps p s at args h undefined = failed_keeps NoMember at
     method_keeps p s at args h null = failed_keeps NoMember at
     method_keeps p s at args h (boolean b) = failed_keeps NoMember at
@@ -375,10 +230,10 @@ module _ {P : States → Type 0} (stays : Stays P) where
     method_keeps p s at args h (function c o held) = failed_keeps NoMember at
 
     called_keeps : (c : Callee) (owner : ℕ) (of : Expr) (args : List Expr) (s : Span) → CalleeKeeps P c → ExprKeeps P of → Each (ExprKeeps P) args → Keeps P (call_step c g call owner of args s)
-    called_keeps Plain owner of args s c k h = then_keeps k.means (λ f. args_keep args h (value_leaves call calls s f))
+    called_keeps Plain owner of args s c k h = then_keeps k.means (λ f. args_keep args h (value_leaves stays call calls s f))
     called_keeps (Lives l) owner of args s c k h = counted_keeps of.span (args_keep args h (life_leaves l owner s))
-    called_keeps Stores owner of args s c k h = counted_keeps of.span (args_keep args h (λ vs. make_leaves (first vs)))
-    called_keeps Derives owner of args s c k h = counted_keeps of.span (args_keep args h (derived_leaves call calls g.program owner s))
+    called_keeps Stores owner of args s c k h = counted_keeps of.span (args_keep args h (λ vs. make_leaves stays (first vs)))
+    called_keeps Derives owner of args s c k h = counted_keeps of.span (args_keep args h (derived_leaves stays call calls g.program owner s))
     called_keeps (Converts b) owner of args s c k h = counted_keeps of.span (args_keep args h (λ vs. answered_leaves s (convert b (first vs))))
     called_keeps (On (Some b) m p) owner of args s c k h = counted_keeps of.span (then_keeps c (λ v. built_keeps b p.method s of.span args h))
     called_keeps (On None m p) owner of args s c k h = counted_keeps of.span (then_keeps c (method_keeps p s of.span args h))
@@ -481,7 +336,7 @@ module _ {P : States → Type 0} (stays : Stays P) where
       kind_keeps (CodeKind-F.Bool b) s = plain_keeps s (done_keeps (boolean b))
       kind_keeps (CodeKind-F.Num n) s = plain_keeps s (done_keeps (number n))
       kind_keeps (CodeKind-F.Text t) s = plain_keeps s (answered_keeps s (text_made t))
-      kind_keeps (CodeKind-F.Read x) s = record { means = read_keeps g owner x s; callee = callee_keeps x; ratio = tt }
+      kind_keeps (CodeKind-F.Read x) s = record { means = read_keeps stays g owner x s; callee = callee_keeps x; ratio = tt }
       kind_keeps (CodeKind-F.List ps) s = plain_keeps s (then_keeps (parts_keep s [] _ (each_made (item_of g call owner) (PutsKeep P) ps)) (λ vs. answered_keeps s (list_made vs)))
       kind_keeps (CodeKind-F.Object ps) s = plain_keeps s (then_keeps (parts_keep s [] _ (each_made (field_of g call owner) (PutsKeep P) ps)) (λ es. answered_keeps s (object_made es)))
       kind_keeps (CodeKind-F.Template es) s = plain_keeps s (template_keeps s _ (each_made (expr_of g call owner) (ExprKeeps P) es))

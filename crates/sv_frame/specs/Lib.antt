@@ -1,3 +1,4 @@
 pub mod Snapshots
 pub mod Views
 pub mod Settling
+pub mod Computed

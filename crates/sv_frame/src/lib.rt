@@ -1,6 +1,8 @@
-//! Laws of scripts: whatever they do, snapshots stay as they are, and so do the views that instances were lent; and derived stores settle to the end.
+//! Laws of scripts: whatever they do, snapshots stay as they are, so do the views that instances were lent, and derived stores are what their functions gave.
 #![tactic(auto)]
 
 mod laws;
 
-pub use laws::{scripts_leave_snapshots, scripts_lend_no_views, settling_ends};
+pub use laws::{
+    derived_stores_stay_computed, scripts_leave_snapshots, scripts_lend_no_views, settling_ends,
+};

@@ -113,12 +113,12 @@ among_still moves is_it [] h k f = absurd (true≢false (sym k))
 among_still moves is_it (x ∷ xs) h k f =
     or_true (is_it x) (list_any is_it xs) k (λ e. f x e (or_first (moves x) (list_any moves xs) h)) (λ r. among_still moves is_it xs (or_second (moves x) (list_any moves xs) h) r f)
 
-still_cells : (looks : Reading) (v v' : View) (n : ℕ) → moved looks v v' ≡ false → has_cell looks n ≡ true → version v (at.Cell n) ≡ version v' (at.Cell n)
+pub still_cells : (looks : Reading) (v v' : View) (n : ℕ) → moved looks v v' ≡ false → has_cell looks n ≡ true → version v (at.Cell n) ≡ version v' (at.Cell n)
 still_cells looks v v' n h k =
     among_still (λ m. has_moved v v' (at.Cell m)) (nat_eq n) looks.cells (or_first _ (list_any (λ x. has_moved v v' (at.Local x)) looks.locals) h) k
     (λ m e q. subst (λ z. version v (at.Cell z) ≡ version v' (at.Cell z)) (sym (eqb-true n m e)) (still_at v v' (at.Cell m) q))
 
-still_locals : (looks : Reading) (v v' : View) (x : Name) → moved looks v v' ≡ false → has_local looks x ≡ true → version v (at.Local x) ≡ version v' (at.Local x)
+pub still_locals : (looks : Reading) (v v' : View) (x : Name) → moved looks v v' ≡ false → has_local looks x ≡ true → version v (at.Local x) ≡ version v' (at.Local x)
 still_locals looks v v' x h k =
     among_still (λ y. has_moved v v' (at.Local y)) (λ y. nat_eq x.0 y.0) looks.locals (or_second (list_any (λ m. has_moved v v' (at.Cell m)) looks.cells) _ h) k
     (λ y e q. subst (λ z. unwrap_or (option_map (λ l. l.number) (local_at v.own.locals z)) 0 ≡ unwrap_or (option_map (λ l. l.number) (local_at v'.own.locals z)) 0) (sym (eqb-true x.0 y.0 e)) (still_at v v' (at.Local y) q))

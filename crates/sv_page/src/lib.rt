@@ -6,6 +6,6 @@ mod session;
 mod stage;
 mod turns;
 
-pub use laws::turns_leave_current_pages;
+pub use laws::{events_leave_stores_computed, turns_leave_current_pages};
 pub use session::Session;
 pub use stage::{Stage, TurnError, Turned};

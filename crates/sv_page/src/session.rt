@@ -50,7 +50,7 @@ impl<'a> Session<'a> {
     pub fn mount(&mut self) -> Result<Turned, TurnError>
         ensures mounts { Mounts result self.old self.new }
         ensures sound { IsSound self.new.page.world.states }
-        ensures current { self.old.page ≡ blank → OnOk result (IsCurrent self.new.page) }
+        ensures current { self.old.page ≡ blank → OnOk result (IsCurrent (program_of self.old) self.new.page) }
     {
         let result = self.play_first();
         self.page.world.states.facts();
@@ -59,7 +59,7 @@ impl<'a> Session<'a> {
 
     fn play_first(&mut self) -> Result<Turned, TurnError>
         ensures mounts { Mounts result self.old self.new }
-        ensures current { self.old.page ≡ blank → OnOk result (IsCurrent self.new.page) }
+        ensures current { self.old.page ≡ blank → OnOk result (IsCurrent (program_of self.old) self.new.page) }
     {
         if self.stage != Stage::New {
             return Err(TurnError::Stopped);
@@ -75,7 +75,7 @@ impl<'a> Session<'a> {
     pub fn turn(&mut self, event: &Event) -> Result<Turned, TurnError>
         ensures turns { Turns result self.old self.new event.now }
         ensures sound { IsSound self.new.page.world.states }
-        ensures current { IsCurrent self.old.page → OnOk result (IsCurrent self.new.page) }
+        ensures current { IsCurrent (program_of self.old) self.old.page → OnOk result (IsCurrent (program_of self.old) self.new.page) }
     {
         let result = self.play_next(event);
         self.page.world.states.facts();
@@ -84,7 +84,7 @@ impl<'a> Session<'a> {
 
     fn play_next(&mut self, event: &Event) -> Result<Turned, TurnError>
         ensures turns { Turns result self.old self.new event.now }
-        ensures current { IsCurrent self.old.page → OnOk result (IsCurrent self.new.page) }
+        ensures current { IsCurrent (program_of self.old) self.old.page → OnOk result (IsCurrent (program_of self.old) self.new.page) }
     {
         if self.stage != Stage::Running {
             return Err(TurnError::Stopped);

@@ -15,7 +15,7 @@ use sv_parts::{PatchError, Refusal};
 /// The first turn: the page is mounted and flushed. A blank page is current afterwards.
 pub fn first_turn(machine: &Machine<'_>, page: &mut Page) -> Result<bool, PatchError>
     ensures turn { Meets result page.new (spec.first_turn machine.now.program.now page.old) }
-    ensures current { page.old ≡ blank → OnOk result (IsCurrent page.new) }
+    ensures current { page.old ≡ blank → OnOk result (IsCurrent machine.now.program.now page.new) }
 {
     mount_and_flush(machine, page)
 }
@@ -39,7 +39,7 @@ pub fn next_turn(
     event: &Event,
 ) -> Result<bool, PatchError>
     ensures turn { Meets result page.new (spec.next_turn machine.now.program.now event.now nodes.now page.old) }
-    ensures current { IsCurrent page.old → OnOk result (IsCurrent page.new) }
+    ensures current { IsCurrent machine.now.program.now page.old → OnOk result (IsCurrent machine.now.program.now page.new) }
 {
     page.world.states.facts();
     deliver_and_flush(machine, page, nodes, event)

@@ -1,0 +1,14 @@
+pub mod Lookups
+pub mod Counting
+pub mod Changes
+pub mod Quiet
+pub mod Loads
+pub mod Matching
+pub mod Steps
+pub mod Walks
+pub mod Listing
+pub mod Rows
+pub mod Forms
+pub mod Patches
+pub mod Typing
+pub mod Blind
