@@ -9,6 +9,7 @@ pub mod Standing
 pub mod Topmost
 pub mod Views
 pub mod Within
+pub mod Keys
 pub mod Compiled
 pub mod Wholes
 pub mod OneOrder

@@ -11,6 +11,7 @@ ghost use Rattle.sv_compile.specs.Runs.{reactives};
 ghost use Rattle.sv_ast.specs.Files.{statements_of};
 ghost use Rattle.sv_lines.specs.Lines.{LinesAscend};
 ghost use Rattle.sv_lower.specs.Does.{Makes};
+ghost use Rattle.sv_within.specs.Keys.{AreAllKeysSeen};
 
 use crate::files::{compile_component, compile_module};
 use crate::modules::modules;
@@ -38,6 +39,7 @@ pub fn compile(alloc: Global, checked: &Checked<'_>) -> Result<Program, NoMemory
     ensures program { IfOk result (λ program. program ≡ spec.program checked.now.bundle.now checked.now.components program.modules) }
     ensures modules { IfOk result (λ program. AreModules checked.now.bundle.now.files program.modules) }
     ensures compiled { IfOk result IsCompiled }
+    ensures keys { IfOk result AreAllKeysSeen }
 {
     let bundle = checked.bundle;
     let mut tables = first_tables(alloc)?;

@@ -13,3 +13,6 @@ pub mod Keeping
 pub mod Contents
 pub mod Telling
 pub mod Markup
+pub mod Keys
+pub mod Heads
+pub mod Lists

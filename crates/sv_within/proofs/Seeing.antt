@@ -57,7 +57,7 @@ abbrev pub same_name : Name → Name → Bool
 same_name x y = nat_eq x.0 y.0
 
 -- a name among some is a plain name among those
-plain_has : (x : Name) (names : List Name) → has (Plain x) (map Plain names) ≡ is_bound x names
+pub plain_has : (x : Name) (names : List Name) → has (Plain x) (map Plain names) ≡ is_bound x names
 plain_has x [] = refl
 plain_has x (y ∷ names) = ap (λ b. same_name x y || b) (plain_has x names)
 

@@ -1,4 +1,5 @@
 // Laws of the definitions, each on a function that does nothing.
+ghost use Rattle.sv_within.specs.Keys.{AreMarkupKeysSeen};
 ghost use Rattle.sv_within.specs.Staying.{ArePartsMadeWithin, IsMarkupMadeWithin};
 
 /// The code of an expression of markup reads nothing but what the names that stand free in it look at, in the arrows that are written in it
@@ -12,4 +13,10 @@ pub fn part_is_within()
 /// looks at the owner's view.
 pub fn markup_is_within()
     ensures { IsMarkupMadeWithin }
+{}
+
+/// The list of an each block in the markup of a component looks at what the key of its rows looks at, but for the names of the row, in its component
+/// tags too.
+pub fn lists_see_keys()
+    ensures { AreMarkupKeysSeen }
 {}
