@@ -1,0 +1,16 @@
+pub mod Scopes
+pub mod Values
+pub mod Fitting
+pub mod Pairs
+pub mod Forms
+pub mod Markup
+pub mod Contents
+pub mod Levels
+pub mod Deeper
+pub mod Standing
+pub mod Onward
+pub mod Looking
+pub mod Seeing
+pub mod Drawing
+pub mod Claiming
+pub mod Holding

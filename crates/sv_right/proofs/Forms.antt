@@ -1,0 +1,254 @@
+-- Texts, elements, if blocks and key blocks.
+use Rattle.std.proofs.Common.{◌≡◌, inl, inr, ℕ, suc, Bool, true, false, List, [], ◌∷◌, Option, Some, None, option_map, unwrap_or, refl, sym, ap, ap₂, ◌∙◌, subst, arith, Ok, eqb-true, if◌then◌else◌}
+use Rattle.sv_code.specs.Names.{Each}
+use Rattle.sv_code.specs.Parts.{of_attrs}
+use Rattle.sv_code.specs.Within.{IsWithin}
+use Rattle.sv_code.specs.declared.fragments.FragAttr.{FragAttr}
+use Rattle.sv_code.specs.declared.parts.Part.{Part}
+use Rattle.sv_code.specs.declared.program.Program.{Program}
+use Rattle.sv_fresh.specs.Blocks as fresh
+use Rattle.sv_fresh.specs.States.{states}
+use Rattle.sv_fresh.specs.Values.{value_at, holds_at, is_truthy}
+use Rattle.sv_parts.specs.Attributes.{attrs_step, typed_after}
+use Rattle.sv_parts.specs.Elements.{opening_by, opening_step}
+use Rattle.sv_parts.specs.Parts.{evaluated, text_step, marked, literal_step, show_step}
+use Rattle.sv_parts.specs.Sides.{Sides, moved}
+use Rattle.sv_parts.specs.State.{andThen, numbered, destroyed}
+use Rattle.sv_parts.specs.declared.elements.Opening.{Opening}
+use Rattle.sv_parts.specs.declared.state.State.{State}
+use Rattle.sv_plan.specs.Blocks.{any_moved, choose, chosen, is_arm, settled_with, settled_anew, settled_moved, settled}
+use Rattle.sv_plan.specs.Plan as plans
+use Rattle.sv_plan.specs.declared.blocks.Settled.{Settled}
+use Rattle.sv_right.proofs.Attributes.{WereStates, attrs_after}
+use Rattle.sv_right.proofs.Steps.{After, then_after, more_after, if_after, Grows, Up, grows_same, grows_on}
+use Rattle.sv_right.proofs.Standing.{Layer, WasLayer, StaysLayer, Now, WereAll, StayAll, made, parts_below, were_on}
+use Rattle.sv_right.proofs.Texts.{or_left, or_right}
+use Rattle.sv_right.proofs.Values.{Valued, Texted, WasText, evaluated_after, still_value, text_step_after}
+use Rattle.sv_right.specs.Claims.{Claim, Walker, OfLiteral, OfText, OfElement, OfIf, OfKey}
+use Rattle.sv_right.specs.Given.{versions_all}
+use Rattle.sv_right.specs.Right.{IsTrue}
+use Rattle.sv_right.specs.Views.{AreAllVersions}
+use Rattle.sv_shapes.specs.Shapes.{Opened, mark_in, text_in, element_in, typed_in, states_in, arm_in, key_in, parts_in}
+use Rattle.sv_shapes.specs.declared.shape.KeyState.{KeyState}
+use Rattle.sv_shapes.specs.declared.shape.Shape.{Shape, Shape-F}
+use Rattle.sv_shapes.specs.declared.shape.Shape.TheVariants as shape
+use Rattle.sv_tokens.specs.declared.element.Typed.{Typed}
+use Rattle.sv_value.specs.Change.{differs, truthy}
+use Rattle.sv_view.specs.Level.{View}
+
+-- ---- texts
+
+marked_after : (old : Option ℕ) (s : State) → After (marked old s) (Up s)
+marked_after None s = omega arith
+marked_after (Some mark) s = grows_same s
+
+-- what is claimed of a text that is written
+abbrev pub literal_layer : Layer
+literal_layer v held = OfLiteral held ∷ []
+
+pub literal_stays : (p : Program) → StaysLayer p (λ at held s. literal_step (mark_in held) s) literal_layer
+literal_stays p at held s was =
+    then_after (marked (mark_in held) s) (λ mark u. Ok (shape.Literal mark, u)) (Up s) _ (marked_after (mark_in held) s)
+    (λ mark v g. (made p literal_layer at.new v.counters.next (shape.Literal mark) (Shape-F.Literal mark) (shape.outs-Literal mark) (record { right = (tt, tt); below = tt }), g))
+
+-- what is claimed of the text of an expression
+abbrev pub text_layer : Part → Layer
+text_layer part v held = OfText part v held ∷ []
+
+was_text : (p : Program) (part : Part) (at : Sides) (k : ℕ) (held : Opened) → WasLayer p (text_layer part) at k held → WasText p part at (text_in held)
+was_text p part at k None was text e = absurd (cc)
+was_text p part at k (Some o) was text e = (was.0, sym was.1.right.0.1 ∙ e)
+
+pub show_stays : (p : Program) (part : Part) → IsWithin p part → StaysLayer p (λ at held s. show_step p part at held s) (text_layer part)
+show_stays p part within at held s was =
+    then_after (text_step p part (text_in held) at s) (λ text v. andThen (marked (mark_in held) v) (λ mark u. Ok (shape.Text mark text, u))) (Texted p part at.new s) _
+    (text_step_after p part (text_in held) at s within (was_text p part at s.counters.next held was))
+    (λ text v h. then_after (marked (mark_in held) v) (λ mark u. Ok (shape.Text mark text, u)) (Up v) _ (marked_after (mark_in held) v)
+    (λ mark u g. (
+      made p (text_layer part) at.new u.counters.next (shape.Text mark text) (Shape-F.Text mark text) (shape.outs-Text mark text) (record { right = ((tt, sym h.0), tt); below = tt }),
+      grows_on s v u h.1 g,
+    )))
+
+-- ---- content
+
+-- a claim on a layer, and those on its content
+abbrev pub with_content : (View → Opened → Claim) → Walker → Layer
+with_content first claims v held = first v held ∷ claims v (parts_in held)
+
+pub were_parts : (p : Program) (first : View → Opened → Claim) (claims : Walker) (at : Sides) (k : ℕ) (held : Opened) → WasLayer p (with_content first claims) at k held → WereAll p claims at k (parts_in held)
+were_parts p first claims at k None was = inl refl
+were_parts p first claims at k (Some o) was = inr (was.0, record { right = was.1.right.1; below = parts_below k o was.1.below })
+
+-- content is right on a view
+abbrev pub Content : Program → Walker → View → State → List Shape → State → Type 0
+Content p claims v s xs u = Now p (claims v xs) u.counters.next (versions_all xs) × Grows s u
+
+pub kept_after : (p : Program) (walk : plans.Walker) (claims : Walker) (at : Sides) (kept : Bool) (parts : List Shape) (s : State) → StayAll p walk claims → (kept ≡ true → WereAll p claims at s.counters.next parts) →
+    After (plans.kept_step walk at kept parts s) (Content p claims at.new s)
+kept_after p walk claims at true parts s stay were = stay at parts s (were refl)
+kept_after p walk claims at false parts s stay were =
+    then_after (destroyed parts s) (λ _ v. walk at [] v) (λ _ v. v.counters.next ≡ s.counters.next) (Content p claims at.new s) refl
+    (λ _ v e. more_after (walk at [] v) (Content p claims at.new v) (Content p claims at.new s) (stay at [] v (inl refl)) (λ xs u h. (h.0, grows_on s v u (omega (arith, e)) h.1)))
+
+-- ---- elements
+
+-- what is claimed of an element
+abbrev pub element_layer : List FragAttr → Walker → Layer
+element_layer attrs claims = with_content (λ v held. OfElement attrs v held) claims
+
+were_states : (p : Program) (attrs : List FragAttr) (claims : Walker) (at : Sides) (k : ℕ) (held : Opened) → WasLayer p (element_layer attrs claims) at k held → WereStates p attrs at (states_in held)
+were_states p attrs claims at k None was = inl refl
+were_states p attrs claims at k (Some o) was = inr (was.0, was.1.right.0.1)
+
+-- what attributes come to on a view
+abbrev Opens : Program → List FragAttr → View → State → Opening → State → Type 0
+Opens p attrs v s o u = (o.states ≡ states p v attrs) × Grows s u
+
+opening_after : (p : Program) (attrs : List FragAttr) (mark : Option ℕ) (typed : Option Typed) (at : Sides) (held : Opened) (s : State) → Each (IsWithin p) (of_attrs attrs) → WereStates p attrs at (states_in held) →
+    After (opening_by p attrs mark typed (states_in held) at s) (Opens p attrs at.new s)
+opening_after p attrs None typed at held s fits were =
+    then_after (numbered s) (λ mark v. andThen (attrs_step p attrs [] at v) (λ sts u. Ok (record { mark = mark; typed = None; states = sts }, u))) (Up s) (Opens p attrs at.new s) (omega arith)
+    (λ mark v g. then_after (attrs_step p attrs [] at v) (λ sts u. Ok (record { mark = mark; typed = None; states = sts }, u)) (λ sts u. (sts ≡ states p at.new attrs) × Grows v u) (Opens p attrs at.new s)
+    (attrs_after p attrs [] at v fits (inl refl)) (λ sts u h. (h.0, grows_on s v u g h.1)))
+opening_after p attrs (Some mark) typed at held s fits were =
+    then_after (attrs_step p attrs (states_in held) at s) (λ sts u. Ok (record { mark = mark; typed = typed_after p at attrs (states_in held) typed; states = sts }, u))
+    (λ sts u. (sts ≡ states p at.new attrs) × Grows s u) (Opens p attrs at.new s) (attrs_after p attrs (states_in held) at s fits were) (λ sts u h. h)
+
+pub element_stays : (p : Program) (attrs : List FragAttr) (walk : plans.Walker) (claims : Walker) → Each (IsWithin p) (of_attrs attrs) → StayAll p walk claims →
+    StaysLayer p (λ at held s. plans.element_step p attrs walk at held s) (element_layer attrs claims)
+element_stays p attrs walk claims fits stay at held s was =
+    then_after (opening_step p attrs at held s) (λ o v. andThen (walk at (parts_in held) v) (λ parts u. Ok (shape.Element o.mark o.typed o.states parts, u))) (Opens p attrs at.new s) _
+    (opening_after p attrs (element_in held) (typed_in held) at held s fits (were_states p attrs claims at s.counters.next held was))
+    (λ o v h. then_after (walk at (parts_in held) v) (λ parts u. Ok (shape.Element o.mark o.typed o.states parts, u)) (Content p claims at.new v) _
+    (stay at (parts_in held) v (were_on p claims at s.counters.next v.counters.next h.1 (parts_in held) (were_parts p (λ w x. OfElement attrs w x) claims at s.counters.next held was)))
+    (λ parts u q. (
+      made p (element_layer attrs claims) at.new u.counters.next (shape.Element o.mark o.typed o.states parts) (Shape-F.Element o.mark o.typed o.states parts) (shape.outs-Element o.mark o.typed o.states parts)
+          (record { right = ((tt, h.0), q.0.right); below = q.0.below }),
+      grows_on s v u h.1 q.1,
+    )))
+
+-- ---- if blocks
+
+if_so : {A : Type 0} (b : Bool) (x y : A) → b ≡ true → (if b then x else y) ≡ x
+if_so true x y e = refl
+if_so false x y e = absurd (cc)
+
+if_not : {A : Type 0} (b : Bool) (x y : A) → b ≡ false → (if b then x else y) ≡ y
+if_not true x y e = absurd (cc)
+if_not false x y e = refl
+
+-- the branch that is to be shown on a view
+abbrev Chooses : Program → List Part → ℕ → View → State → ℕ → State → Type 0
+Chooses p ts i v s arm u = (arm ≡ fresh.choose p v ts i) × Grows s u
+
+choose_after : (p : Program) (ts : List Part) (i : ℕ) (at : Sides) (s : State) → After (choose p ts i at s) (Chooses p ts i at.new s)
+choose_after p [] i at s = (refl, grows_same s)
+choose_after p (t ∷ ts) i at s =
+    then_after (evaluated p t at s) (λ x u. if truthy x then Ok (i, u) else choose p ts (suc i) at u) (Valued p t at.new s) (Chooses p (t ∷ ts) i at.new s) (evaluated_after p t at s)
+    (λ x v e. if_after (truthy x) (Ok (i, v)) (choose p ts (suc i) at v) (Chooses p (t ∷ ts) i at.new s)
+    (λ q. (sym (if_so (holds_at p at.new t) i (fresh.choose p at.new ts (suc i)) (ap is_truthy e.0 ∙ q)), e.1))
+    (λ q. more_after (choose p ts (suc i) at v) (Chooses p ts (suc i) at.new v) (Chooses p (t ∷ ts) i at.new s) (choose_after p ts (suc i) at v)
+    (λ arm u h. (h.0 ∙ sym (if_not (holds_at p at.new t) i (fresh.choose p at.new ts (suc i)) (ap is_truthy e.0 ∙ q)), grows_on s v u e.1 h.1))))
+
+-- where no condition moved, the same branch is to be shown
+still_choose : (p : Program) (ts : List Part) (i : ℕ) (at : Sides) → Each (IsWithin p) ts → AreAllVersions at.old at.new → any_moved ts at ≡ false → fresh.choose p at.old ts i ≡ fresh.choose p at.new ts i
+still_choose p [] i at fits all e = refl
+still_choose p (t ∷ ts) i at fits all e =
+    ap₂ (λ b n. if b then i else n) (ap is_truthy (still_value p t at fits.0 all (or_left (moved t.reads at) (any_moved ts at) e)))
+    (still_choose p ts (suc i) at fits.1 all (or_right (moved t.reads at) (any_moved ts at) e))
+
+-- the branch that was shown is the one that was to be shown on the old view
+abbrev WasChosen : Program → List Part → Sides → Option ℕ → Type 0
+WasChosen p ts at old = (arm : ℕ) → old ≡ Some arm → AreAllVersions at.old at.new × (arm ≡ fresh.choose p at.old ts 0)
+
+chosen_after : (p : Program) (ts : List Part) (old : Option ℕ) (at : Sides) (s : State) → Each (IsWithin p) ts → WasChosen p ts at old → After (chosen p ts old at s) (Chooses p ts 0 at.new s)
+chosen_after p ts None at s fits was = choose_after p ts 0 at s
+chosen_after p ts (Some arm) at s fits was =
+    if_after (any_moved ts at) (choose p ts 0 at s) (Ok (arm, s)) (Chooses p ts 0 at.new s) (λ _. choose_after p ts 0 at s)
+    (λ e. ((was arm refl).1 ∙ still_choose p ts 0 at fits (was arm refl).0 e, grows_same s))
+
+-- what is claimed of an if block
+abbrev pub if_layer : List Part → (ℕ → Walker) → Layer
+if_layer ts claims v held = OfIf ts v held ∷ claims (unwrap_or (arm_in held) 0) v (parts_in held)
+
+unwrapped : (o : Option ℕ) (n : ℕ) → o ≡ Some n → unwrap_or o 0 ≡ n
+unwrapped o n e = ap (λ z. unwrap_or z 0) e
+
+was_chosen : (p : Program) (ts : List Part) (claims : ℕ → Walker) (at : Sides) (k : ℕ) (held : Opened) → WasLayer p (if_layer ts claims) at k held → WasChosen p ts at (arm_in held)
+was_chosen p ts claims at k None was arm e = absurd (cc)
+was_chosen p ts claims at k (Some o) was arm e = (was.0, sym (unwrapped (arm_in (Some o)) arm e) ∙ ap (λ z. unwrap_or z 0) was.1.right.0)
+
+is_same : (old : Option ℕ) (arm : ℕ) → is_arm old arm ≡ true → old ≡ Some arm
+is_same None arm e = absurd (cc)
+is_same (Some n) arm e = ap Some (eqb-true n arm e)
+
+were_in_arm : (p : Program) (ts : List Part) (claims : ℕ → Walker) (at : Sides) (k arm : ℕ) (held : Opened) → WasLayer p (if_layer ts claims) at k held → is_arm (arm_in held) arm ≡ true →
+    WereAll p (claims arm) at k (parts_in held)
+were_in_arm p ts claims at k arm None was e = inl refl
+were_in_arm p ts claims at k arm (Some o) was e =
+    inr (
+      was.0,
+      record {
+        right = subst (λ n. Each (IsTrue p) (claims n at.old (parts_in (Some o)))) (unwrapped (arm_in (Some o)) arm (is_same (arm_in (Some o)) arm e)) was.1.right.1;
+        below = parts_below k o was.1.below;
+      },
+    )
+
+pub if_stays : (p : Program) (ts : List Part) (walk : ℕ → plans.Walker) (claims : ℕ → Walker) → Each (IsWithin p) ts → ((i : ℕ) → StayAll p (walk i) (claims i)) →
+    StaysLayer p (λ at held s. plans.if_step p ts walk at held s) (if_layer ts claims)
+if_stays p ts walk claims fits stay at held s was =
+    then_after (chosen p ts (arm_in held) at s) (λ arm v. andThen (plans.kept_step (walk arm) at (is_arm (arm_in held) arm) (parts_in held) v) (λ parts u. Ok (shape.If arm parts, u)))
+    (Chooses p ts 0 at.new s) _ (chosen_after p ts (arm_in held) at s fits (was_chosen p ts claims at s.counters.next held was))
+    (λ arm v h. then_after (plans.kept_step (walk arm) at (is_arm (arm_in held) arm) (parts_in held) v) (λ parts u. Ok (shape.If arm parts, u)) (Content p (claims arm) at.new v) _
+    (kept_after p (walk arm) (claims arm) at (is_arm (arm_in held) arm) (parts_in held) v (stay arm)
+    (λ e. were_on p (claims arm) at s.counters.next v.counters.next h.1 (parts_in held) (were_in_arm p ts claims at s.counters.next arm held was e)))
+    (λ parts u q. (
+      made p (if_layer ts claims) at.new u.counters.next (shape.If arm parts) (Shape-F.If arm parts) (shape.outs-If arm parts) (record { right = (ap Some h.0, q.0.right); below = q.0.below }),
+      grows_on s v u h.1 q.1,
+    )))
+
+-- ---- key blocks
+
+-- the value of a key block is the one on a view
+abbrev Settles : Program → Part → View → State → Settled → State → Type 0
+Settles p part v s k u = (value_at p v part ≡ Some k.state.value) × Grows s u
+
+settled_new : (p : Program) (part : Part) (at : Sides) (s : State) → After (settled_anew p part at s) (Settles p part at.new s)
+settled_new p part at s =
+    then_after (evaluated p part at s) (λ x u. andThen (numbered u) (λ n w. Ok (record { state = record { value = x; number = n }; kept = false }, w))) (Valued p part at.new s)
+    (Settles p part at.new s) (evaluated_after p part at s) (λ x v e. (e.0, omega (arith, e.1)))
+
+settled_over : (p : Program) (part : Part) (old : KeyState) (at : Sides) (s : State) → After (settled_moved p part old at s) (Settles p part at.new s)
+settled_over p part old at s =
+    then_after (evaluated p part at s) (settled_with old) (Valued p part at.new s) (Settles p part at.new s) (evaluated_after p part at s)
+    (λ x v e. if_after (differs old.value x) (andThen (numbered v) (λ n u. Ok (record { state = record { value = x; number = n }; kept = false }, u)))
+    (Ok (record { state = record { value = x; number = old.number }; kept = true }, v)) (Settles p part at.new s) (λ _. (e.0, omega (arith, e.1))) (λ _. e))
+
+settled_after : (p : Program) (part : Part) (old : Option KeyState) (at : Sides) (s : State) → IsWithin p part →
+    ((k : KeyState) → old ≡ Some k → AreAllVersions at.old at.new × (Some k.value ≡ value_at p at.old part)) → After (settled p part old at s) (Settles p part at.new s)
+settled_after p part None at s fits was = settled_new p part at s
+settled_after p part (Some old) at s fits was =
+    if_after (moved part.reads at) (settled_moved p part old at s) (Ok (record { state = old; kept = true }, s)) (Settles p part at.new s) (λ _. settled_over p part old at s)
+    (λ e. (sym (still_value p part at fits (was old refl).0 e) ∙ sym (was old refl).1, grows_same s))
+
+-- what is claimed of a key block
+abbrev pub key_layer : Part → Walker → Layer
+key_layer part claims = with_content (λ v held. OfKey part v held) claims
+
+was_settled : (p : Program) (part : Part) (claims : Walker) (at : Sides) (k : ℕ) (held : Opened) → WasLayer p (key_layer part claims) at k held →
+    (st : KeyState) → key_in held ≡ Some st → AreAllVersions at.old at.new × (Some st.value ≡ value_at p at.old part)
+was_settled p part claims at k None was st e = absurd (cc)
+was_settled p part claims at k (Some o) was st e = (was.0, sym (ap (option_map (λ z. z.value)) e) ∙ was.1.right.0.1)
+
+pub key_stays : (p : Program) (part : Part) (walk : plans.Walker) (claims : Walker) → IsWithin p part → StayAll p walk claims →
+    StaysLayer p (λ at held s. plans.key_step p part walk at held s) (key_layer part claims)
+key_stays p part walk claims fits stay at held s was =
+    then_after (settled p part (key_in held) at s) (λ k v. andThen (plans.kept_step walk at k.kept (parts_in held) v) (λ parts u. Ok (shape.Key k.state parts, u))) (Settles p part at.new s) _
+    (settled_after p part (key_in held) at s fits (was_settled p part claims at s.counters.next held was))
+    (λ k v h. then_after (plans.kept_step walk at k.kept (parts_in held) v) (λ parts u. Ok (shape.Key k.state parts, u)) (Content p claims at.new v) _
+    (kept_after p walk claims at k.kept (parts_in held) v stay
+    (λ _. were_on p claims at s.counters.next v.counters.next h.1 (parts_in held) (were_parts p (λ w x. OfKey part w x) claims at s.counters.next held was)))
+    (λ parts u q. (
+      made p (key_layer part claims) at.new u.counters.next (shape.Key k.state parts) (Shape-F.Key k.state parts) (shape.outs-Key k.state parts) (record { right = ((tt, sym h.0), q.0.right); below = q.0.below }),
+      grows_on s v u h.1 q.1,
+    )))

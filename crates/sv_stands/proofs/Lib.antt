@@ -1,0 +1,12 @@
+pub mod Lending
+pub mod Walks
+pub mod Tags
+pub mod Rows
+pub mod Forms
+pub mod Plans
+pub mod Patches
+pub mod Outward
+pub mod Owners
+pub mod Stands
+pub mod Markup
+pub mod Standing
