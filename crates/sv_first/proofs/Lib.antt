@@ -1,0 +1,5 @@
+mod Facts
+mod Patches
+mod Creating
+mod Slots
+mod Pages

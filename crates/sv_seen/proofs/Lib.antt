@@ -1,0 +1,7 @@
+pub mod Spots
+pub mod Markup
+pub mod Plans
+mod Showing
+mod Steps
+mod Making
+pub mod Mounting
