@@ -1,10 +1,14 @@
 // The line of a refused turn.
-ghost use Rattle.std.specs.Prelude.{◌≡◌, ◌++◌, OnOk, string_bytes};
+ghost use Rattle.std.specs.Prelude.{◌≡◌, ◌++◌, ◌≤◌, Err, OnOk, OnErr, string_bytes};
+ghost use Rattle.sv_io.specs.Faults.{Rose};
+ghost use Rattle.sv_io.specs.Sink.{with_bytes, AppendsFront};
 ghost use Rattle.sv_play.specs.Refused as spec;
 
 use crate::faults::fault_word;
+use std::alloc::Global;
 use sv_base::{NoMemory, Span};
 use sv_code::Program;
+use sv_io::{Sink, SinkError, write_all};
 use sv_lines::place_of;
 use sv_parts::Refusal;
 use sv_value::Key;
@@ -24,6 +28,24 @@ pub fn push_refused(text: &mut String, program: &Program, refusal: &Refusal) -> 
         Refusal::Duplicate { span, key } => push_duplicate(text, program, *span, key),
         Refusal::Budget => Ok(text.push_str("refused: budget\n")?),
     }
+}
+
+/// Writes that line; or a prefix of it, where a write fails or memory runs out.
+pub fn write_refused<K: Sink>(
+    alloc: Global,
+    program: &Program,
+    refusal: &Refusal,
+    out: &mut K,
+) -> Result<(), SinkError>
+    requires { spec.LinesAscend program.now }
+    ensures all { OnOk result (K.written out.new ≡ with_bytes (K.written out.old) (spec.refused_line program.now refusal.now)) }
+    ensures front { OnErr result (AppendsFront (K.written out.old) (K.written out.new) (spec.refused_line program.now refusal.now)) }
+    ensures later { K.faults out.old ≤ K.faults out.new }
+    ensures failed { result ≡ Err SinkError.Failed → Rose (K.faults out.old) (K.faults out.new) }
+{
+    let mut line = String::new(alloc);
+    push_refused(&mut line, program, refusal)?;
+    write_all(out, line.as_bytes())
 }
 
 fn push_duplicate(

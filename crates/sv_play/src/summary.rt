@@ -10,7 +10,7 @@ ghost use Rattle.sv_play.specs.Summary as spec;
 ghost use Rattle.sv_play.specs.Sums.{SumsTo};
 
 use crate::lines::summary_line;
-use crate::refused::push_refused;
+use crate::refused::write_refused;
 use std::alloc::Global;
 use sv_base::NoMemory;
 use sv_code::Program;
@@ -47,9 +47,7 @@ pub fn summarize<K: Sink>(
             Ok(false)
         }
         Err(TurnError::Refused(refusal)) => {
-            let mut line = String::new(alloc);
-            push_refused(&mut line, program, &refusal)?;
-            write_all(out, line.as_bytes())?;
+            write_refused(alloc, program, &refusal, out)?;
             Ok(true)
         }
         Err(TurnError::NoMemory) => Err(SinkError::NoMemory),

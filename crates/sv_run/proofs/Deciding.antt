@@ -22,9 +22,9 @@ use Rattle.sv_load.specs.declared.refusals.LoadError.{LoadError}
 use Rattle.sv_load.specs.declared.refusals.LoadError.TheVariants as load
 use Rattle.sv_play.specs.declared.flags.Flags.{Flags}
 use Rattle.sv_resolve.specs.declared.refusals.CheckRefusal.{CheckRefusal}
-use Rattle.sv_run.specs.Answer.{Answer, usage, missing, events, turns, accepted, listed, load_answer, mistake_answer, IsMistaken, IsUnfit, not_loaded, mistaken, Accepts, IsChecked, unfit, clean, IsPrinted, unfit_too, compiled, Compiles, told_answer, AreEvents, no_file, long_file, whole_file, IsPlayed, unfit_run, no_events, plays, IsSummed, unfit_gen, IsAnswer, no_form, runs, checks, prints, gens}
+use Rattle.sv_run.specs.Answer.{Answer, usage, missing, events, turns, accepted, listed, rendered, load_answer, mistake_answer, IsMistaken, IsUnfit, not_loaded, mistaken, Accepts, IsChecked, unfit, clean, IsPrinted, unfit_too, compiled, Compiles, told_answer, AreEvents, no_file, long_file, whole_file, IsPlayed, unfit_run, no_events, plays, IsRendered, unfit_render, renders, IsSummed, unfit_gen, IsAnswer, no_form, runs, checks, prints, renderings, gens}
 use Rattle.sv_run.specs.Generated.{generated, root_name}
-use Rattle.sv_run.specs.Words.{IsRun, IsCheck, IsPrint, IsGen, IsNoForm}
+use Rattle.sv_run.specs.Words.{IsRun, IsCheck, IsPrint, IsRender, IsGen, IsNoForm}
 use Rattle.sv_run.specs.declared.kinds.EventsFault.TheVariants as faults
 
 -- what holds of every value holds of the one that is told
@@ -78,6 +78,16 @@ pub calls-compiled : (o : Option Files) (root : List ℕ) (bundle other : Bundle
     → answer ≡ listed (listing (program other all [])) → IfSome o (λ files. Loads files root (Ok bundle)) → IfSome o (λ files. IsPrinted files root answer)
 calls-compiled o root bundle other all answer is same checked told = some_weaker o (λ files loads.
     subst (IsPrinted files root) (sym (told ∙ ap (λ b. listed (listing (program b all []))) same)) (compiled bundle all (record { loaded = loads; is_clean = is }) checked))
+
+-- ---- `render ROOT`
+
+pub calls-unfit_render : (o : Option Files) (root : List ℕ) (answer : Answer) → IfSome o (λ files. IsUnfit files root answer) → IfSome o (λ files. IsRendered files root answer)
+calls-unfit_render o root answer = some_weaker o (λ files is. unfit_render answer is)
+
+pub calls-renders : (o : Option Files) (root : List ℕ) (bundle other : Bundle) (answer : Answer) → IsClean bundle → other ≡ bundle → (made : Program) × ((answer ≡ rendered made) × Compiles other made)
+    → IfSome o (λ files. Loads files root (Ok bundle)) → IfSome o (λ files. IsRendered files root answer)
+calls-renders o root bundle other answer is same made = some_weaker o (λ files loads.
+    subst (IsRendered files root) (sym made.1.0) (renders bundle made.0 (record { loaded = loads; is_clean = is }) (subst (λ b. Compiles b made.0) same made.1.1)))
 
 -- ---- the events file
 
@@ -166,6 +176,10 @@ calls-check o words root answer check = some_weaker o (λ files checked. checks 
 pub calls-print : (o : Option Files) (words : List (List ℕ)) (root : List ℕ) (answer : Answer) → IsPrint words root
     → IfSome o (λ files. IsPrinted files root answer) → IfSome o (λ files. IsAnswer words files answer)
 calls-print o words root answer print = some_weaker o (λ files printed. prints root answer print printed)
+
+pub calls-render : (o : Option Files) (words : List (List ℕ)) (root : List ℕ) (answer : Answer) → IsRender words root
+    → IfSome o (λ files. IsRendered files root answer) → IfSome o (λ files. IsAnswer words files answer)
+calls-render o words root answer render = some_weaker o (λ files is. renderings root answer render is)
 
 pub calls-gen : (o : Option Files) (words : List (List ℕ)) (count : ℕ) (answer : Answer) → IsGen words count → IsSummed count answer → IfSome o (λ files. IsAnswer words files answer)
 calls-gen o words count answer gen is = told o (λ files there. gens count answer gen is)

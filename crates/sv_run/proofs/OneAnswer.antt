@@ -15,7 +15,7 @@ use Rattle.sv_load.specs.Laws.{IsOneOutcome}
 use Rattle.sv_load.specs.Loads.{Reads, nothing as no_files}
 use Rattle.sv_load.specs.declared.refusals.LoadError.{LoadError}
 use Rattle.sv_play.specs.declared.flags.Flags.{Flags}
-use Rattle.sv_run.specs.Answer.{Answer, turns, sums, listed, load_answer, mistake_answer, IsMistaken, IsUnfit, not_loaded, mistaken, Accepts, IsChecked, unfit, clean, IsPrinted, unfit_too, compiled, Compiles, told_answer, AreEvents, no_file, long_file, whole_file, IsPlayed, unfit_run, no_events, plays, IsSummed, unfit_gen, summed, IsAnswer, no_form, runs, checks, prints, gens}
+use Rattle.sv_run.specs.Answer.{Answer, turns, sums, listed, rendered, load_answer, mistake_answer, IsMistaken, IsUnfit, not_loaded, mistaken, Accepts, IsChecked, unfit, clean, IsPrinted, unfit_too, compiled, Compiles, told_answer, AreEvents, no_file, long_file, whole_file, IsPlayed, unfit_run, no_events, plays, IsRendered, unfit_render, renders, IsSummed, unfit_gen, summed, IsAnswer, no_form, runs, checks, prints, renderings, gens}
 use Rattle.sv_run.specs.Generated.{generated, root_name, clicks}
 use Rattle.sv_run.specs.Words.{flags_of, IsRun, IsOfRoot, IsGen}
 
@@ -140,6 +140,16 @@ IsPlayed-unique laws files root file flags _ _ (plays bundle p list c m e) (play
     let lists : list ≡ list' = ok-same list list' (Ok list) refl (AreEvents-unique files file (Ok list) (Ok list') e e') in
     ap (λ z. turns z flags list) programs ∙ ap (turns p' flags) lists
 
+-- ---- `render ROOT`
+
+IsRendered-unique : (laws : Laws) (files : Files) (root : List ℕ) (a b : Answer) → IsRendered files root a → IsRendered files root b → a ≡ b
+IsRendered-unique laws files root _ _ (unfit_render a is) (unfit_render b is') = IsUnfit-unique laws files root a b is is'
+IsRendered-unique laws files root _ _ (unfit_render a is) (renders bundle p c m) = unfit-or-clean laws files root a bundle is c
+IsRendered-unique laws files root _ _ (renders bundle p c m) (unfit_render b is) = unfit-or-clean laws files root b bundle is c
+IsRendered-unique laws files root _ _ (renders bundle p c m) (renders bundle' p' c' m') =
+    let same : bundle' ≡ bundle = one_bundle laws files root bundle' bundle c'.loaded c.loaded in
+    ap rendered (compiles_same laws bundle p p' c.is_clean m (subst (λ z. Compiles z p') same m'))
+
 -- ---- `gen N`
 
 IsSummed-unique : (laws : Laws) (count : ℕ) (a b : Answer) → IsSummed count a → IsSummed count b → a ≡ b
@@ -186,6 +196,7 @@ IsAnswer-unique laws words files _ _ (no_form n) (no_form n') = refl
 IsAnswer-unique laws words files _ _ (no_form n) (runs root file flags b run p) = absurd (n.no_run root file flags run)
 IsAnswer-unique laws words files _ _ (no_form n) (checks root b check p) = absurd (n.no_check root check)
 IsAnswer-unique laws words files _ _ (no_form n) (prints root b print p) = absurd (n.no_print root print)
+IsAnswer-unique laws words files _ _ (no_form n) (renderings root b render p) = absurd (n.no_render root render)
 IsAnswer-unique laws words files _ _ (no_form n) (gens count b gen p) = absurd (n.no_gen count gen)
 IsAnswer-unique laws words files _ _ (runs root file flags a run p) (no_form n) = absurd (n.no_run root file flags run)
 IsAnswer-unique laws words files _ _ (runs root file flags a run p) (runs root' file' flags' b run' q) =
@@ -196,22 +207,33 @@ IsAnswer-unique laws words files _ _ (runs root file flags a run p) (runs root' 
     IsPlayed-unique laws files root file flags a b p q'
 IsAnswer-unique laws words files _ _ (runs root file flags a run p) (checks root' b check q) = run-or-two _ _ words root file flags run check.form
 IsAnswer-unique laws words files _ _ (runs root file flags a run p) (prints root' b print q) = run-or-two _ _ words root file flags run print.form
+IsAnswer-unique laws words files _ _ (runs root file flags a run p) (renderings root' b render q) = run-or-two _ _ words root file flags run render.form
 IsAnswer-unique laws words files _ _ (runs root file flags a run p) (gens count b gen q) = run-or-two _ _ words root file flags run gen.form
 IsAnswer-unique laws words files _ _ (checks root a check p) (no_form n) = absurd (n.no_check root check)
 IsAnswer-unique laws words files _ _ (checks root a check p) (runs root' file flags b run q) = run-or-two _ _ words root' file flags run check.form
 IsAnswer-unique laws words files _ _ (checks root a check p) (checks root' b check' q) =
     IsChecked-unique laws files root a b p (subst (λ x. IsChecked files x b) (root-of-same _ words root' root check' check) q)
 IsAnswer-unique laws words files _ _ (checks root a check p) (prints root' b print q) = two-ways _ _ _ _ words (λ e. absurd (omega (arith, e))) check.form print.form
+IsAnswer-unique laws words files _ _ (checks root a check p) (renderings root' b render q) = two-ways _ _ _ _ words (λ e. absurd (omega (arith, e))) check.form render.form
 IsAnswer-unique laws words files _ _ (checks root a check p) (gens count b gen q) = two-ways _ _ _ _ words (λ e. absurd (omega (arith, e))) check.form gen.form
 IsAnswer-unique laws words files _ _ (prints root a print p) (no_form n) = absurd (n.no_print root print)
 IsAnswer-unique laws words files _ _ (prints root a print p) (runs root' file flags b run q) = run-or-two _ _ words root' file flags run print.form
 IsAnswer-unique laws words files _ _ (prints root a print p) (checks root' b check q) = two-ways _ _ _ _ words (λ e. absurd (omega (arith, e))) print.form check.form
 IsAnswer-unique laws words files _ _ (prints root a print p) (prints root' b print' q) =
     IsPrinted-unique laws files root a b p (subst (λ x. IsPrinted files x b) (root-of-same _ words root' root print' print) q)
+IsAnswer-unique laws words files _ _ (prints root a print p) (renderings root' b render q) = two-ways _ _ _ _ words (λ e. absurd (omega (arith, e))) print.form render.form
 IsAnswer-unique laws words files _ _ (prints root a print p) (gens count b gen q) = two-ways _ _ _ _ words (λ e. absurd (omega (arith, e))) print.form gen.form
+IsAnswer-unique laws words files _ _ (renderings root a render p) (no_form n) = absurd (n.no_render root render)
+IsAnswer-unique laws words files _ _ (renderings root a render p) (runs root' file flags b run q) = run-or-two _ _ words root' file flags run render.form
+IsAnswer-unique laws words files _ _ (renderings root a render p) (checks root' b check q) = two-ways _ _ _ _ words (λ e. absurd (omega (arith, e))) render.form check.form
+IsAnswer-unique laws words files _ _ (renderings root a render p) (prints root' b print q) = two-ways _ _ _ _ words (λ e. absurd (omega (arith, e))) render.form print.form
+IsAnswer-unique laws words files _ _ (renderings root a render p) (renderings root' b render' q) =
+    IsRendered-unique laws files root a b p (subst (λ x. IsRendered files x b) (root-of-same _ words root' root render' render) q)
+IsAnswer-unique laws words files _ _ (renderings root a render p) (gens count b gen q) = two-ways _ _ _ _ words (λ e. absurd (omega (arith, e))) render.form gen.form
 IsAnswer-unique laws words files _ _ (gens count a gen p) (no_form n) = absurd (n.no_gen count gen)
 IsAnswer-unique laws words files _ _ (gens count a gen p) (runs root' file flags b run q) = run-or-two _ _ words root' file flags run gen.form
 IsAnswer-unique laws words files _ _ (gens count a gen p) (checks root' b check q) = two-ways _ _ _ _ words (λ e. absurd (omega (arith, e))) gen.form check.form
 IsAnswer-unique laws words files _ _ (gens count a gen p) (prints root' b print q) = two-ways _ _ _ _ words (λ e. absurd (omega (arith, e))) gen.form print.form
+IsAnswer-unique laws words files _ _ (gens count a gen p) (renderings root' b render q) = two-ways _ _ _ _ words (λ e. absurd (omega (arith, e))) gen.form render.form
 IsAnswer-unique laws words files _ _ (gens count a gen p) (gens count' b gen' q) =
     IsSummed-unique laws count a b p (subst (λ n. IsSummed n b) (count-same words count' count gen' gen) q)

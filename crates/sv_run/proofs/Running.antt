@@ -1,12 +1,13 @@
 -- How a run ends, by the answer that its words and files call for.
-use Rattle.std.proofs.Common.{◌≡◌, ℕ, Bool, true, false, List, Option, refl, sym, ◌∙◌, ap, subst, inl}
+use Rattle.std.proofs.Common.{◌≡◌, ◌≢◌, ℕ, Bool, true, false, List, Option, refl, sym, ◌∙◌, ap, subst, inl}
 use Rattle.std.specs.Prelude.{if◌then◌else◌}
 use Rattle.sv_io.specs.Files.{Files}
 use Rattle.sv_io.specs.Sink.{with_bytes, AppendsFront}
 use Rattle.sv_play.specs.Run.{printed}
 use Rattle.sv_play.specs.Summary.{summary}
-use Rattle.sv_run.specs.Answer.{Answer, usage, missing, source, source_at, events, turns, sums, accepted, listed, IsAnswer, status_of, text_of}
+use Rattle.sv_run.specs.Answer.{Answer, usage, missing, source, source_at, events, turns, sums, accepted, listed, rendered, IsAnswer, status_of, text_of}
 use Rattle.sv_run.specs.Run.{Answers, BreaksOff, RunAnswers, RunCompletes, IsOneAnswer}
+use Rattle.sv_ssr.specs.First.{first_page}
 use Rattle.sv_run.specs.declared.status.Status.{Status}
 use Rattle.sv_run.specs.declared.status.Status.TheVariants as statuses
 
@@ -31,6 +32,36 @@ answered words files old new (turns program flags list) is written = turns_answe
 answered words files old new (sums program list) is written = turns_answered words files old new (summary program list).refused (answer_given words files old new (sums program list) is written)
 answered words files old new accepted is written = answer_given words files old new accepted is written
 answered words files old new (listed text) is written = answer_given words files old new (listed text) is written
+answered words files old new (rendered program) is written = turns_answered words files old new (first_page program).refused (answer_given words files old new (rendered program) is written)
+
+-- no answer is given where a read or a write failed
+ends_otherwise : (other : Status) → (statuses.Turn ≢ other) → (statuses.Ok ≢ other) → (refused : Bool) → (if refused then statuses.Turn else statuses.Ok) ≢ other
+ends_otherwise other turn ok true = turn
+ends_otherwise other turn ok false = ok
+
+pub no_read_fault : (answer : Answer) → status_of answer ≢ statuses.ReadFault
+no_read_fault usage = λ e. absurd (cc)
+no_read_fault (missing name) = λ e. absurd (cc)
+no_read_fault (source file word) = λ e. absurd (cc)
+no_read_fault (source_at file line column word) = λ e. absurd (cc)
+no_read_fault (events fault) = λ e. absurd (cc)
+no_read_fault (turns program flags list) = ends_otherwise statuses.ReadFault (λ e. absurd (cc)) (λ e. absurd (cc)) (printed program flags list).refused
+no_read_fault (sums program list) = ends_otherwise statuses.ReadFault (λ e. absurd (cc)) (λ e. absurd (cc)) (summary program list).refused
+no_read_fault accepted = λ e. absurd (cc)
+no_read_fault (listed text) = λ e. absurd (cc)
+no_read_fault (rendered program) = ends_otherwise statuses.ReadFault (λ e. absurd (cc)) (λ e. absurd (cc)) (first_page program).refused
+
+pub no_write_fault : (answer : Answer) → status_of answer ≢ statuses.WriteFault
+no_write_fault usage = λ e. absurd (cc)
+no_write_fault (missing name) = λ e. absurd (cc)
+no_write_fault (source file word) = λ e. absurd (cc)
+no_write_fault (source_at file line column word) = λ e. absurd (cc)
+no_write_fault (events fault) = λ e. absurd (cc)
+no_write_fault (turns program flags list) = ends_otherwise statuses.WriteFault (λ e. absurd (cc)) (λ e. absurd (cc)) (printed program flags list).refused
+no_write_fault (sums program list) = ends_otherwise statuses.WriteFault (λ e. absurd (cc)) (λ e. absurd (cc)) (summary program list).refused
+no_write_fault accepted = λ e. absurd (cc)
+no_write_fault (listed text) = λ e. absurd (cc)
+no_write_fault (rendered program) = ends_otherwise statuses.WriteFault (λ e. absurd (cc)) (λ e. absurd (cc)) (first_page program).refused
 
 -- the answer was given
 pub run-answered : (words : List (List ℕ)) (files : Files) (old new : Option (List ℕ)) (status : Status) (answer : Answer) → IsAnswer words files answer

@@ -23,7 +23,8 @@ use Rattle.sv_play.specs.declared.flags.Flags.{Flags}
 use Rattle.sv_resolve.specs.declared.refusals.CheckRefusal.{CheckRefusal}
 use Rattle.sv_run.specs.Generated.{generated, root_name, clicks}
 use Rattle.sv_run.specs.Kinds.{parse_word, check_word, fault_in, events_word}
-use Rattle.sv_run.specs.Words.{IsRun, IsCheck, IsPrint, IsGen, IsNoForm}
+use Rattle.sv_ssr.specs.First.{first_page}
+use Rattle.sv_run.specs.Words.{IsRun, IsCheck, IsPrint, IsRender, IsGen, IsNoForm}
 use Rattle.sv_run.specs.declared.kinds.EventsFault.{EventsFault}
 use Rattle.sv_run.specs.declared.kinds.EventsFault.TheVariants as faults
 use Rattle.sv_run.specs.declared.status.Status.{Status}
@@ -40,6 +41,7 @@ pub data Answer : Type 0 where
   sums : Program → List Event → Answer
   accepted : Answer
   listed : (text : List ℕ) → Answer
+  rendered : Program → Answer
 
 -- what is answered where a program isn't loaded; a failed read and `NoMemory` have no answer
 abbrev pub load_answer : LoadError → Option Answer
@@ -93,6 +95,11 @@ pub record Compiles (bundle : Bundle) (compiled : Program) : Type 0 where
   pub are_modules : AreModules bundle.files modules
   pub is : compiled ≡ program bundle told modules
 
+-- What `render ROOT` answers: where there is no mistake, the first page of the program.
+pub data IsRendered (files : Files) (root : List ℕ) : Answer → Type 0 where
+  unfit_render : (answer : Answer) → IsUnfit files root answer → IsRendered files root answer
+  renders : (bundle : Bundle) (compiled : Program) → Accepts files root bundle → Compiles bundle compiled → IsRendered files root (rendered compiled)
+
 -- what the bytes of an events file tell: its events, or what is answered where it has none; `NoMemory` has no answer
 abbrev pub told_answer : Told → Option (Result (List Event) Answer)
 told_answer (Ok list) = Some (Ok list)
@@ -123,6 +130,7 @@ pub data IsAnswer (words : List (List ℕ)) (files : Files) : Answer → Type 0 
   runs : (root file : List ℕ) (flags : Flags) (answer : Answer) → IsRun words root file flags → IsPlayed files root file flags answer → IsAnswer words files answer
   checks : (root : List ℕ) (answer : Answer) → IsCheck words root → IsChecked files root answer → IsAnswer words files answer
   prints : (root : List ℕ) (answer : Answer) → IsPrint words root → IsPrinted files root answer → IsAnswer words files answer
+  renderings : (root : List ℕ) (answer : Answer) → IsRender words root → IsRendered files root answer → IsAnswer words files answer
   gens : (count : ℕ) (answer : Answer) → IsGen words count → IsSummed count answer → IsAnswer words files answer
 
 -- the status of a run by what is printed of it
@@ -140,10 +148,11 @@ status_of (turns program flags list) = turned (printed program flags list)
 status_of (sums program list) = turned (summary program list)
 status_of accepted = statuses.Ok
 status_of (listed text) = statuses.Ok
+status_of (rendered program) = turned (first_page program)
 
 -- the line for words that are no form
 unfoldable pub usage_line : List ℕ
-usage_line = codes "usage: svp run ROOT EVENTS [--log] [--watch] [--serials] [--tally] | check ROOT | print ROOT | gen N\n"
+usage_line = codes "usage: svp run ROOT EVENTS [--log] [--watch] [--serials] [--tally] | check ROOT | print ROOT | gen N | render ROOT\n"
 
 -- the output of an answer
 abbrev pub text_of : Answer → List ℕ
@@ -157,3 +166,4 @@ text_of (turns program flags list) = (printed program flags list).text
 text_of (sums program list) = (summary program list).text
 text_of accepted = codes "accepted\n"
 text_of (listed text) = text
+text_of (rendered program) = (first_page program).text

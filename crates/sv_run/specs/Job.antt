@@ -2,7 +2,7 @@
 use Rattle.std.specs.Prelude.{List, Result, Ok, Err, string_bytes, ⊤}
 use Rattle.sv_events.specs.declared.event.Event.{Event}
 use Rattle.sv_play.specs.Refused.{LinesAscend}
-use Rattle.sv_run.specs.Answer.{Answer, usage, missing, source, source_at, events, turns, sums, accepted, listed}
+use Rattle.sv_run.specs.Answer.{Answer, usage, missing, source, source_at, events, turns, sums, accepted, listed, rendered}
 use Rattle.sv_run.specs.declared.events.Loaded.{Loaded}
 use Rattle.sv_run.specs.declared.events.Loaded.TheVariants as loaded
 use Rattle.sv_run.specs.declared.job.Job.{Job}
@@ -23,6 +23,7 @@ answer_of (jobs.Play program list flags) = turns program flags list.items
 answer_of (jobs.Sum program list) = sums program list.items
 answer_of jobs.Accept = accepted
 answer_of (jobs.List text) = listed text.items
+answer_of (jobs.Render program) = rendered program
 
 -- what came of an events file
 abbrev pub outcome_of : Loaded → Result (List Event) Answer
@@ -34,5 +35,6 @@ abbrev pub IsPlayable : Job → Type 0
 IsPlayable (jobs.Refuse refusal) = ⊤
 IsPlayable jobs.Accept = ⊤
 IsPlayable (jobs.List text) = ⊤
+IsPlayable (jobs.Render program) = LinesAscend program
 IsPlayable (jobs.Play program list flags) = LinesAscend program
 IsPlayable (jobs.Sum program list) = LinesAscend program

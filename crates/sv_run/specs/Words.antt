@@ -5,7 +5,7 @@ use Rattle.std.specs.Char.{is_ascii_alphanumeric}
 use Rattle.std.specs.Str.{bytes_eq}
 use Rattle.sv_play.specs.declared.flags.Flags.{Flags}
 use Rattle.sv_run.specs.declared.command.Command.{Command}
-use Rattle.sv_run.specs.declared.command.Command.TheVariants.{Run, Check, Print, Gen}
+use Rattle.sv_run.specs.declared.command.Command.TheVariants.{Run, Check, Print, Render, Gen}
 use Rattle.sv_run.specs.declared.command.TheConstants.{GEN_LIMIT}
 
 -- a letter or digit of ASCII, `_` or `-`
@@ -77,6 +77,10 @@ IsCheck words root = IsOfRoot (codes "check") words root
 abbrev pub IsPrint : List (List ℕ) → List ℕ → Type 0
 IsPrint words root = IsOfRoot (codes "print") words root
 
+-- the words `render ROOT`
+abbrev pub IsRender : List (List ℕ) → List ℕ → Type 0
+IsRender words root = IsOfRoot (codes "render") words root
+
 -- a number as it is written, without leading zeros, up to 1,000
 pub record IsCount (word : List ℕ) (count : ℕ) : Type 0 where
   pub spelled : word ≡ decimal count
@@ -87,7 +91,7 @@ pub record IsGen (words : List (List ℕ)) (count : ℕ) : Type 0 where
   pub form : words ≡ codes "gen" ∷ decimal count ∷ []
   pub most : count ≤ GEN_LIMIT
 
--- the words aren't `run ROOT EVENTS` with flags, or not `check ROOT`, or not `print ROOT`, or not `gen N`
+-- the words aren't `run ROOT EVENTS` with flags, or not `check ROOT`, or not `print ROOT`, or not `render ROOT`, or not `gen N`
 abbrev pub IsNoRun : List (List ℕ) → Type 0
 IsNoRun words = (root events : List ℕ) (flags : Flags) → IsRun words root events flags → ⊥
 
@@ -100,6 +104,9 @@ IsNoCheck words = IsNoneOfRoot (codes "check") words
 abbrev pub IsNoPrint : List (List ℕ) → Type 0
 IsNoPrint words = IsNoneOfRoot (codes "print") words
 
+abbrev pub IsNoRender : List (List ℕ) → Type 0
+IsNoRender words = IsNoneOfRoot (codes "render") words
+
 abbrev pub IsNoGen : List (List ℕ) → Type 0
 IsNoGen words = (count : ℕ) → IsGen words count → ⊥
 
@@ -108,6 +115,7 @@ pub record IsNoForm (words : List (List ℕ)) : Type 0 where
   pub no_run : IsNoRun words
   pub no_check : IsNoCheck words
   pub no_print : IsNoPrint words
+  pub no_render : IsNoRender words
   pub no_gen : IsNoGen words
 
 -- the words are the form that a command says
@@ -115,4 +123,5 @@ abbrev pub IsCommand : List (List ℕ) → Command → Type 0
 IsCommand words (Run root events flags) = IsRun words root.now events.now flags
 IsCommand words (Check root) = IsCheck words root.now
 IsCommand words (Print root) = IsPrint words root.now
+IsCommand words (Render root) = IsRender words root.now
 IsCommand words (Gen count) = IsGen words count

@@ -55,6 +55,10 @@ pub enum Command<'a> {
     Print {
         root: &'a str,
     },
+    /// `render ROOT`.
+    Render {
+        root: &'a str,
+    },
     /// `gen N`.
     Gen {
         count: u32,
@@ -77,6 +81,9 @@ pub fn command_of(alloc: Global, words: &[String]) -> Result<Option<Command<'_>>
     }
     if let Some(root) = root_words("print", words) {
         return Ok(Some(Command::Print { root }));
+    }
+    if let Some(root) = root_words("render", words) {
+        return Ok(Some(Command::Render { root }));
     }
     match gen_words(alloc, words)? {
         Some(count) => Ok(Some(Command::Gen { count })),

@@ -51,10 +51,12 @@ pub enum Job {
     Accept,
     /// Print this listing of the program, in UTF-8.
     List(Vec<u8>),
+    /// Print the first page of the program.
+    Render(Program),
 }
 
 const USAGE: &str =
-    "usage: svp run ROOT EVENTS [--log] [--watch] [--serials] [--tally] | check ROOT | print ROOT | gen N\n";
+    "usage: svp run ROOT EVENTS [--log] [--watch] [--serials] [--tally] | check ROOT | print ROOT | gen N | render ROOT\n";
 
 impl Refusal {
     /// The status with which the run ends.

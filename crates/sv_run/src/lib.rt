@@ -1,5 +1,6 @@
 //! The top call: it reads the files that the words of a command line name, and prints what they ask for: the pages of a run, the first
-//! mistake of a program, the listing of what it is compiled to, or the sums of a run of a generated program. `run` carries what is promised.
+//! mistake of a program, the listing of what it is compiled to, its first page, or the sums of a run of a generated program. `run` carries what is
+//! promised.
 #![tactic(auto)]
 
 mod check;
@@ -11,6 +12,7 @@ mod kinds;
 mod laws;
 mod play;
 mod refusals;
+mod render;
 mod status;
 mod top;
 

@@ -13,10 +13,12 @@ use crate::generate::decide_gen;
 use crate::job::{Job, Refusal};
 use crate::laws::one_answer;
 use crate::play::decide_run;
+use crate::render::decide_render;
 use crate::status::Status;
 use std::alloc::Global;
 use sv_io::{Shelf, ShelfError, Sink, SinkError, write_all};
 use sv_play::{play, summarize};
+use sv_ssr::render;
 
 // What the words and the files ask for.
 fn decide<F: Shelf>(alloc: Global, words: &[String], shelf: &mut F) -> Result<Job, ShelfError>
@@ -36,6 +38,7 @@ fn decide<F: Shelf>(alloc: Global, words: &[String], shelf: &mut F) -> Result<Jo
         } => decide_run(alloc, root, events, flags, shelf),
         Command::Check { root } => decide_check(alloc, root, shelf),
         Command::Print { root } => decide_print(alloc, root, shelf),
+        Command::Render { root } => decide_render(alloc, root, shelf),
         Command::Gen { count } => decide_gen(alloc, count),
     }
 }
@@ -81,6 +84,10 @@ fn answer<K: Sink>(alloc: Global, job: &Job, out: &mut K) -> Result<Status, Sink
         Job::List(text) => {
             write_all(out, text.as_slice())?;
             Ok(Status::Ok)
+        }
+        Job::Render(program) => {
+            let refused = render(alloc, program, out)?;
+            Ok(turned(refused))
         }
     }
 }
