@@ -11,7 +11,7 @@ use crate::lookups::takes_step;
 use crate::values::{eval, eval_or, eval_test};
 use sv_base::{Name, Span};
 use sv_code::{Code, CodeArm, CodeDecl, CodeStmt, CodeStmtKind};
-use sv_meaning::{Context, End, EvalError, Locals, count, declare, fault};
+use sv_meaning::{Context, End, EvalError, Locals, count, fault, give_name};
 use sv_ops::FaultKind;
 use sv_value::{Value, truthy};
 use sv_world::World;
@@ -191,7 +191,8 @@ fn declare_one(
     ensures fewer { world.new.turn.steps ≤ world.old.turn.steps }
 {
     let value = eval_or(context, world, locals, decl.first.as_ref())?;
-    declare(world, locals, context.owner, decl, value)
+    give_name(locals, decl.target, value);
+    Ok(())
 }
 
 #[cycle(eval)]

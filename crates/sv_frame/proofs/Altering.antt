@@ -1,10 +1,11 @@
 -- What scripts do to the states leaves pictures of instances as they are that show nothing of what scripts change: snapshots, and views that were lent.
-use Rattle.std.proofs.Common.{◌≡◌, ℕ, Bool, true, false, List, [], ◌∷◌, ◌++◌, map, Option, Some, None, option_map, refl, sym, ap, ◌∙◌, if◌then◌else◌}
+use Rattle.std.proofs.Common.{◌≡◌, ℕ, Bool, true, false, List, [], ◌∷◌, ◌++◌, map, Option, Some, None, option_map, refl, sym, subst, ap, ◌∙◌, if◌then◌else◌}
 use Rattle.std.specs.Prelude.{slice_set}
 use Rattle.std.proofs.Math.Seq.{map-set_same}
 use Rattle.std.proofs.lemmas.List.{length-set}
 use Rattle.sv_derived.specs.Derived.{marked, done}
-use Rattle.sv_frame.proofs.Stepping.{Steps}
+use Rattle.sv_frame.proofs.Stepping.{Setups, Steps}
+use Rattle.sv_frame.specs.Constants.{constants_of}
 use Rattle.sv_frame.specs.Snapshots.{Snapshot, snapshot_of, snapshots}
 use Rattle.sv_frame.specs.Views.{lent_views}
 use Rattle.sv_instance.specs.Subscriptions.{moved_to}
@@ -27,9 +28,10 @@ if_same : {A B : Type 0} (f : A → B) (b : Bool) (x y : A) (z : B) → f x ≡ 
 if_same f true x y z h k = h
 if_same f false x y z h k = k
 
--- a picture of an instance shows nothing of its setup, its subscriptions and its place in the queue, and not what its present cells are
+-- a picture of an instance shows nothing of its setup but its constants, nothing of its subscriptions and its place in the queue, and not what its present
+-- cells are
 pub record Plain {X : Type 0} (g : Instance → X) : Type 0 where
-  pub setup : (i : Instance) (u : Setup) → g (record i { setup = u }) ≡ g i
+  pub setup : (i : Instance) (u : Setup) → u.constants ≡ i.setup.constants → g (record i { setup = u }) ≡ g i
   pub waits : (i : Instance) → g (queued i) ≡ g i
   pub subscribed : (i : Instance) (names : List Subscription) → g (record i { subscriptions = names }) ≡ g i
   pub written : (i : Instance) (c : ℕ) (x : Option Cell) → g (record i { cells = record i.cells { now = slice_set i.cells.now c x } }) ≡ g i
@@ -111,7 +113,7 @@ module _ {X : Type 0} {g : Instance → X} (plain : Plain g) where
   pub pictures-bound : (s : States) (n : ℕ) (b : Bound) → seen (bound_up s n b) ≡ seen s
   pictures-bound s n b =
       bound_over_same (value_in (live s n) b.cell) b s (with_instance (with_bound b) s n)
-      ∙ pictures-altered g (with_bound b) s.lives n (λ i. plain.setup i (record i.setup { bounds = b ∷ i.setup.bounds }))
+      ∙ pictures-altered g (with_bound b) s.lives n (λ i. plain.setup i (record i.setup { bounds = b ∷ i.setup.bounds }) refl)
 
   -- an instance that gets its owner's view is queued besides
   pub pictures-viewed : (s : States) (n c : ℕ) (view : View) → has_cell (live s n) c ≡ true → seen (viewed s n c view) ≡ seen (with_instance (with_view c view) s n)
@@ -131,18 +133,26 @@ module _ {X : Type 0} {g : Instance → X} (plain : Plain g) where
   subscribed_same : (s : States) (p : Subscriber) (source : Option ℕ) (v : Val) → seen (subscribed_to s p source v) ≡ seen s
   subscribed_same s p source v = if_same seen (may_follow s p) (named_over source (goal_of s.stores v) s p) s (seen s) (named_same source (goal_of s.stores v) s p) refl
 
-  -- the pictures are these
-  pub pictures_stay : (old : List (Option X)) → Steps (λ s. pictures g s ≡ old)
-  pictures_stay old = record {
-    left = λ s f n h. pictures-altered g (λ i. record i { setup = f i.setup }) s.lives n (λ i. plain.setup i (f i.setup)) ∙ h;
-    assigned = λ s n c v h. assigned_same s n c v ∙ h;
-    store_set = λ s id v h. set_same s id v ∙ h;
-    computed = λ s id v h. computed_same s id v ∙ h;
+  -- a fact of the pictures
+  pub pictures_keep : (Q : List (Option X) → Type 0) → Steps (λ s. Q (pictures g s))
+  pictures_keep Q = record {
+    left = λ s f n e h. subst Q (sym (pictures-altered g (λ i. record i { setup = f i.setup }) s.lives n (λ i. plain.setup i (f i.setup) (e i.setup)))) h;
+    assigned = λ s n c v h. subst Q (sym (assigned_same s n c v)) h;
+    store_set = λ s id v h. subst Q (sym (set_same s id v)) h;
+    computed = λ s id v h. subst Q (sym (computed_same s id v)) h;
     with_store = λ s v h. h;
     with_derived = λ s owner r v h. h;
-    declared = λ s p v h. declared_same s p v ∙ h;
-    subscribed = λ s p source v h. subscribed_same s p source v ∙ h;
+    declared = λ s p v h. subst Q (sym (declared_same s p v)) h;
+    subscribed = λ s p source v h. subst Q (sym (subscribed_same s p source v)) h;
   }
+
+  -- the pictures are these
+  pub pictures_stay : (old : List (Option X)) → Steps (λ s. pictures g s ≡ old)
+  pictures_stay old = pictures_keep (λ x. x ≡ old)
+
+-- a picture that shows nothing of a setup at all stays where constants get values
+pub pictures_setup : {X : Type 0} {g : Instance → X} → ((i : Instance) (u : Setup) → g (record i { setup = u }) ≡ g i) → (old : List (Option X)) → Setups (λ s. pictures g s ≡ old)
+pictures_setup {g = g} same old s f n h = pictures-altered g (λ i. record i { setup = f i.setup }) s.lives n (λ i. same i (f i.setup)) ∙ h
 
 -- ---- snapshots
 
@@ -151,7 +161,7 @@ sized : (i : Instance) (c : ℕ) (x : Option Cell) → snapshot_of (record i { c
 sized i c x = ap (λ n. record { count = n; seen = i.cells.seen }) (length-set i.cells.now c x)
 
 pub plain_snapshot : Plain snapshot_of
-plain_snapshot = record { setup = λ i u. refl; waits = λ i. refl; subscribed = λ i x. refl; written = sized }
+plain_snapshot = record { setup = λ i u e. refl; waits = λ i. refl; subscribed = λ i x. refl; written = sized }
 
 pub snapshots-bound : (s : States) (n : ℕ) (b : Bound) → snapshots (bound_up s n b) ≡ snapshots s
 snapshots-bound s n b = pictures-bound plain_snapshot s n b
@@ -171,7 +181,7 @@ abbrev pub view_of : Instance → Option View
 view_of i = i.owner_view
 
 pub plain_view : Plain view_of
-plain_view = record { setup = λ i u. refl; waits = λ i. refl; subscribed = λ i x. refl; written = λ i c x. refl }
+plain_view = record { setup = λ i u e. refl; waits = λ i. refl; subscribed = λ i x. refl; written = λ i c x. refl }
 
 pub views-bound : (s : States) (n : ℕ) (b : Bound) → lent_views (bound_up s n b) ≡ lent_views s
 views-bound s n b = pictures-bound plain_view s n b
@@ -183,6 +193,9 @@ views-handed s p v = pictures-handed plain_view s p v
 abbrev pub Seen : List (Option Snapshot) → States → Type 0
 Seen old s = snapshots s ≡ old
 
+pub seen_setups : (old : List (Option Snapshot)) → Setups (Seen old)
+seen_setups old = pictures_setup (λ i u. refl) old
+
 pub seen_stays : (old : List (Option Snapshot)) → Steps (Seen old)
 seen_stays old = pictures_stay plain_snapshot old
 
@@ -190,5 +203,13 @@ seen_stays old = pictures_stay plain_snapshot old
 abbrev pub Lent : List (Option (Option View)) → States → Type 0
 Lent old s = lent_views s ≡ old
 
+pub lent_setups : (old : List (Option (Option View))) → Setups (Lent old)
+lent_setups old = pictures_setup (λ i u. refl) old
+
 pub lent_stays : (old : List (Option (Option View))) → Steps (Lent old)
 lent_stays old = pictures_stay plain_view old
+
+-- ---- constants
+
+pub plain_constants : Plain constants_of
+plain_constants = record { setup = λ i u e. e; waits = λ i. refl; subscribed = λ i x. refl; written = λ i c x. refl }

@@ -9,11 +9,10 @@ use Rattle.sv_code.specs.declared.known.Method.TheVariants as method
 use Rattle.sv_code.specs.declared.program.Program.{Program}
 use Rattle.sv_derived.specs.Derived.{Recipe}
 use Rattle.sv_derived.specs.Order.{AreBelow}
-use Rattle.sv_frame.proofs.Deriving.{derive-same, recipe-below}
+use Rattle.sv_frame.proofs.Deriving.{derive_left, recipe-below}
 use Rattle.sv_frame.proofs.Outcomes.{Fact, MaySet, Stays, Keeps, Leaves, Held, Left, if_left, then_left, kept_held, then_keeps, done_keeps, then_leaves, ends_leaves, fails_leaves, if_leaves, given_leaves, spent_leaves, answered_leaves, doing_keeps, kept_keeps, answered_keeps}
 use Rattle.sv_meaning.specs.Calls.{Caller, call_value, first, is_function, takes_function, resumed, visited, start, visit_from, visit_with, set_store, update_store, make_store, make_computed, recipe_in, make_derived, list_answer, on_list, on_store, log_line, log_texts, log}
 use Rattle.sv_meaning.specs.Env.{Env, look}
-use Rattle.sv_frame.specs.Snapshots.{world_of}
 use Rattle.sv_meaning.specs.Derived.{derive}
 use Rattle.sv_meaning.specs.Outcome.{Ending, Ends, Fails, Meaning, Deed, and_then, then_do, kept, doing, given}
 use Rattle.sv_meaning.specs.Refused.{unless}
@@ -57,13 +56,13 @@ module _ {p : Program} {P : Fact} (stays : Stays p P) where
   read_keeps g owner (known.Life l) s = done_keeps undefined
   read_keeps g owner (known.BuiltIn b) s = done_keeps undefined
 
-  local_held : (o : Option Val) (x : ℕ) (v : Val) (s : Span) (env : Env) (w : World) → P.ends w.states → Held P (local_set o x v s env w)
-  local_held None x v s env w h = P.weaker w.states h
+  local_held : (o : Option Val) (x : ℕ) (v : Val) (s : Span) (env : Env) (w : World) → P.ends w.modules w.states → Held P (local_set o x v s env w)
+  local_held None x v s env w h = P.weaker w.modules w.states h
   local_held (Some old) x v s env w h = h
 
   -- ---- settling
 
-  settled_left : {derives : Deriving} → DerivesAs p derives → (w : World) → P.ends w.states → Left P (settled derives w)
+  settled_left : {derives : Deriving} → DerivesAs p derives → (w : World) → P.ends w.modules w.states → Left P (settled derives w)
   settled_left d w h = subst (λ derives. Left P (settled derives w)) (sym d.is) (stays.settles d.room w h)
 
   changed_leaves : {derives : Deriving} → DerivesAs p derives → (b : Bool) → Leaves P (λ w. if b then settled derives w else Ends tt w)
@@ -74,10 +73,10 @@ module _ {p : Program} {P : Fact} (stays : Stays p P) where
     abbrev settled_behind : Option AssignError → Deed B
     settled_behind o w = then_do (unless o s (λ w'. Ends a (record w' { states = f w'.states })) w) (λ u w'. then_do (settled derives w') (λ t. Ends b))
 
-    behind_left : (o : Option AssignError) (w : World) → P.ends w.states → (MaySet o → Left P (settled derives (record w { states = f w.states }))) → Left P (settled_behind o w)
+    behind_left : (o : Option AssignError) (w : World) → P.ends w.modules w.states → (MaySet o → Left P (settled derives (record w { states = f w.states }))) → Left P (settled_behind o w)
     behind_left None w h k = then_left P (settled derives (record w { states = f w.states })) (λ t. Ends b) (k (λ e. absurd (let q = e in cc))) (λ t w' h'. h')
-    behind_left (Some ReadOnly) w h k = P.weaker w.states h
-    behind_left (Some NotAStore) w h k = P.weaker w.states h
+    behind_left (Some ReadOnly) w h k = P.weaker w.modules w.states h
+    behind_left (Some NotAStore) w h k = P.weaker w.modules w.states h
     behind_left (Some NoMemory) w h k = then_left P (settled derives (record w { states = f w.states })) (λ t. Ends b) (k (λ e. absurd (let q = e in cc))) (λ t w' h'. h')
 
   -- ---- calls
@@ -132,7 +131,7 @@ module _ {p : Program} {P : Fact} (stays : Stays p P) where
     abbrev settled_on : Option View → (n : ℕ) → Val → Meaning Val
     settled_on sight n u = doing (λ w. then_do (if may_change sight (known.Cell n) then settled call.derives w else Ends tt w) (λ t. Ends u))
 
-    assigned_held : (sight : Option View) (owner n : ℕ) (v : Val) (s : Span) (env : Env) (w : World) → P.ends w.states → Held P (and_then (kept env (cell_assigned sight owner n v s w)) (settled_on sight n))
+    assigned_held : (sight : Option View) (owner n : ℕ) (v : Val) (s : Span) (env : Env) (w : World) → P.ends w.modules w.states → Held P (and_then (kept env (cell_assigned sight owner n v s w)) (settled_on sight n))
     assigned_held (Some view) owner n v s env w h = h
     assigned_held None owner n v s env w h = by (assign_refusal w.states owner n v) (λ may. of_room (λ derives. settled derives (record w { states = states.assigned w.states owner n v })) (Left P) (stays.assigned calls.derived.room w owner n v may h)) where
       now : World
@@ -143,12 +142,12 @@ module _ {p : Program} {P : Fact} (stays : Stays p P) where
 
       by : (o : Option AssignError) → (MaySet o → Left P (settled call.derives now)) → Held P (and_then (kept env (unless o s (λ w'. Ends v (record w' { states = states.assigned w'.states owner n v })) w)) (settled_on None n))
       by None k = done (k (λ e. absurd (let q = e in cc)))
-      by (Some ReadOnly) k = P.weaker w.states h
-      by (Some NotAStore) k = P.weaker w.states h
+      by (Some ReadOnly) k = P.weaker w.modules w.states h
+      by (Some NotAStore) k = P.weaker w.modules w.states h
       by (Some NoMemory) k = done (k (λ e. absurd (let q = e in cc)))
 
-    cell_held : (o : Option Val) (g : Ground) (owner n : ℕ) (v : Val) (s : Span) (env : Env) (w : World) → P.ends w.states → Held P (and_then (cell_put o g owner n v s env w) (settled_on g.sight n))
-    cell_held None g owner n v s env w h = P.weaker w.states h
+    cell_held : (o : Option Val) (g : Ground) (owner n : ℕ) (v : Val) (s : Span) (env : Env) (w : World) → P.ends w.modules w.states → Held P (and_then (cell_put o g owner n v s env w) (settled_on g.sight n))
+    cell_held None g owner n v s env w h = P.weaker w.modules w.states h
     cell_held (Some old) g owner n v s env w h = assigned_held g.sight owner n v s env w h
 
     pub set_keeps : (g : Ground) (owner : ℕ) (x : Known) (v : Val) (s : Span) → Keeps P (set g call owner x v s)
@@ -172,21 +171,21 @@ module _ {p : Program} {P : Fact} (stays : Stays p P) where
     abbrev with_one : ℕ → Recipe → Val → Deed Val
     with_one owner r v w = Ends (store (length w.states.stores)) (record w { states = with_derived w.states owner r v })
 
-    computed_left : (owner : ℕ) (r : Recipe) (w : World) → AreBelow r.inputs (length w.states.stores) → P.ends w.states → Left P (make_computed call owner r w)
+    computed_left : (owner : ℕ) (r : Recipe) (w : World) → AreBelow r.inputs (length w.states.stores) → P.ends w.modules w.states → Left P (make_computed call owner r w)
     computed_left owner r w below h = of_room (λ derives. then_do (derives owner r w) (with_one owner r)) (Left P) (by (derive p calls.derived.room owner r w) refl) where
       by : (e : Ending Val) → derive p calls.derived.room owner r w ≡ e → Left P (then_do e (with_one owner r))
       by (Ends v w') e = stays.with_derived calls.derived.room w w' owner r v below e h
-      by (Fails k s w') e = P.weaker w'.states (subst P.ends (sym (subst (λ x. (world_of x).states ≡ w.states) e (derive-same p calls.derived.room owner r w))) h)
+      by (Fails k s w') e = subst (Left P) e (derive_left P p calls.derived.room owner r w h)
 
-    recipe_left : (q : Program) (owner : ℕ) (s : Span) (args : List Val) (w : World) (o : Option Recipe) → recipe_in q s args w.states.stores ≡ o → P.ends w.states → Left P (then_do (given NotAStore s o w) (make_computed call owner))
-    recipe_left q owner s args w None e h = P.weaker w.states h
+    recipe_left : (q : Program) (owner : ℕ) (s : Span) (args : List Val) (w : World) (o : Option Recipe) → recipe_in q s args w.states.stores ≡ o → P.ends w.modules w.states → Left P (then_do (given NotAStore s o w) (make_computed call owner))
+    recipe_left q owner s args w None e h = P.weaker w.modules w.states h
     recipe_left q owner s args w (Some r) e h = computed_left owner r w (recipe-below w.states.stores q s args r e) h
 
     pub derived_leaves : (q : Program) (owner : ℕ) (s : Span) (args : List Val) → Leaves P (make_derived q call owner s args)
     derived_leaves q owner s args = record { held = λ w h. recipe_left q owner s args w (recipe_in q s args w.states.stores) refl h }
 
   pub make_leaves : (v : Val) → Leaves P (make_store v)
-  make_leaves v = record { held = λ w h. stays.with_store w.states v h }
+  make_leaves v = record { held = λ w h. stays.with_store w.modules w.states v h }
 
   line_leaves : (s : Span) (line : List ℕ) → Leaves P (log_line s line)
   line_leaves s line = spent_leaves (length line) s (record { held = λ w h. h })

@@ -7,7 +7,7 @@ use Rattle.sv_base.specs.declared.span.Span.{Span}
 use Rattle.sv_code.specs.declared.program.Program.{Program}
 use Rattle.sv_derived.specs.Derived.{Recipe}
 use Rattle.sv_derived.specs.Order.{AreBelow}
-use Rattle.sv_frame.proofs.Outcomes.{always, Left, then_left, answered_leaves}
+use Rattle.sv_frame.proofs.Outcomes.{Fact, always, Left, then_left, answered_leaves}
 use Rattle.sv_frame.specs.Snapshots.{world_of}
 use Rattle.sv_meaning.proofs.Inputs.{inputs_below}
 use Rattle.sv_meaning.specs.Calls.{first, second, recipe_in}
@@ -20,7 +20,18 @@ use Rattle.sv_store.specs.Stores.{Store}
 use Rattle.sv_value.specs.Value.{Val, undefined, null, boolean, number, text, list, object, function, store, items}
 use Rattle.sv_world.specs.declared.world.World.{World}
 
--- ---- the states stay
+-- ---- the states stay, and the constants of module files
+
+module _ (P : Fact) where
+  rejoined_left : (w : World) (e : Ending Val) → P.ends w.modules w.states → Left P (rejoined w e)
+  rejoined_left w (Ends v w') h = h
+  rejoined_left w (Fails k s w') h = P.weaker w.modules w.states h
+
+  pub derive_left : (p : Program) (room owner : ℕ) (r : Recipe) (w : World) → P.ends w.modules w.states → Left P (derive p room owner r w)
+  derive_left p room owner r w h =
+      then_left P (answered r.span (handed r.takes_list (input_values w.states.stores r.inputs)) w) (called_apart p room owner r)
+      ((answered_leaves {P = P} r.span (handed r.takes_list (input_values w.states.stores r.inputs))).held w h)
+      (λ v w' k. rejoined_left w' _ k)
 
 abbrev Same : States → States → Type 0
 Same old s = s ≡ old
@@ -29,16 +40,8 @@ of_left : {A : Type 0} (old : States) (e : Ending A) → Left (always (Same old)
 of_left old (Ends a w) h = h
 of_left old (Fails k s w) h = h
 
-rejoined-same : (old : States) (w : World) (e : Ending Val) → w.states ≡ old → Left (always (Same old)) (rejoined w e)
-rejoined-same old w (Ends v w') h = h
-rejoined-same old w (Fails k s w') h = h
-
 pub derive-same : (p : Program) (room owner : ℕ) (r : Recipe) (w : World) → (world_of (derive p room owner r w)).states ≡ w.states
-derive-same p room owner r w =
-    of_left w.states (derive p room owner r w)
-    (then_left (always (Same w.states)) (answered r.span (handed r.takes_list (input_values w.states.stores r.inputs)) w) (called_apart p room owner r)
-    ((answered_leaves {P = always (Same w.states)} r.span (handed r.takes_list (input_values w.states.stores r.inputs))).held w refl)
-    (λ v w' h. rejoined-same w.states w' _ h))
+derive-same p room owner r w = of_left w.states (derive p room owner r w) (derive_left (always (Same w.states)) p room owner r w refl)
 
 -- ---- recipes name stores that were made
 

@@ -7,6 +7,7 @@ pub mod Statements
 pub mod Running
 pub mod Altering
 pub mod Leaving
+mod Lasting
 pub mod Settling
 pub mod Stored
 pub mod Computing

@@ -1,5 +1,5 @@
 -- What is true of the states and stays so, whatever is done one after another.
-use Rattle.std.proofs.Common.{◌≡◌, ℕ, zero, suc, Bool, true, false, length, Option, Some, None, if◌then◌else◌}
+use Rattle.std.proofs.Common.{◌≡◌, ℕ, zero, suc, Bool, true, false, List, length, Option, Some, None, if◌then◌else◌}
 use Rattle.sv_base.specs.declared.span.Span.{Span}
 use Rattle.sv_code.specs.declared.program.Program.{Program}
 use Rattle.sv_derived.specs.Derived.{Recipe}
@@ -10,6 +10,7 @@ use Rattle.sv_meaning.specs.Env.{Env}
 use Rattle.sv_meaning.specs.Outcome.{Ending, Ends, Fails, Outcome, Done, Failed, Meaning, Deed, and_then, then_do, kept, doing, left, given, either, with_steps, less_by, spent_in, spent, counted_in, counted, answered}
 use Rattle.sv_meaning.specs.Refused.{unless}
 use Rattle.sv_meaning.specs.Settling.{settled}
+use Rattle.sv_meaning.specs.Statements.{constant_set}
 use Rattle.sv_ops.specs.Answer.{Answer, Gives, Refuses}
 use Rattle.sv_ops.specs.declared.faults.FaultKind.{FaultKind}
 use Rattle.sv_states.specs.Assignment as states
@@ -22,73 +23,89 @@ use Rattle.sv_store.specs.Stores.{Subscriber}
 use Rattle.sv_value.specs.Value.{Val}
 use Rattle.sv_world.specs.declared.world.World.{World}
 
--- what is true of the states where something ends, and, which is no more, where it fails
-pub record Fact : Type 1 where
-  pub ends : States → Type 0
-  pub fails : States → Type 0
-  pub weaker : (s : States) → ends s → fails s
+-- the constants of module files
+abbrev pub Modules : Type 0
+Modules = List (List (Option Val))
 
--- it is true either way
-abbrev pub always : (States → Type 0) → Fact
-always P = record { ends = P; fails = P; weaker = λ s h. h }
+-- what is true of those and of the states where something ends, and, which is no more, where it fails
+pub record Fact : Type 1 where
+  pub ends : Modules → States → Type 0
+  pub fails : Modules → States → Type 0
+  pub weaker : (ms : Modules) (s : States) → ends ms s → fails ms s
 
 -- it is true where something ends
+abbrev pub ending : (Modules → States → Type 0) → Fact
+ending P = record { ends = P; fails = λ ms s. Unit {0}; weaker = λ ms s h. tt }
+
+-- so it is of the states alone
 abbrev pub at_ends : (States → Type 0) → Fact
-at_ends P = record { ends = P; fails = λ s. Unit {0}; weaker = λ s h. tt }
+at_ends P = ending (λ ms. P)
+
+-- it is true either way
+abbrev pub anyway : (Modules → States → Type 0) → Fact
+anyway P = record { ends = P; fails = P; weaker = λ ms s h. h }
+
+-- so it is of the states alone
+abbrev pub always : (States → Type 0) → Fact
+always P = anyway (λ ms. P)
 
 abbrev pub Held : (P : Fact) {A : Type 0} → Outcome A → Type 0
-Held P (Done a env w) = P.ends w.states
-Held P (Failed k s w) = P.fails w.states
+Held P (Done a env w) = P.ends w.modules w.states
+Held P (Failed k s w) = P.fails w.modules w.states
 
 abbrev pub Left : (P : Fact) {A : Type 0} → Ending A → Type 0
-Left P (Ends a w) = P.ends w.states
-Left P (Fails k s w) = P.fails w.states
+Left P (Ends a w) = P.ends w.modules w.states
+Left P (Fails k s w) = P.fails w.modules w.states
 
 -- code keeps it true
 pub record Keeps (P : Fact) {A : Type 0} (m : Meaning A) : Type 0 where
-  pub held : (env : Env) (w : World) → P.ends w.states → Held P (m env w)
+  pub held : (env : Env) (w : World) → P.ends w.modules w.states → Held P (m env w)
 
 -- a deed keeps it true
 pub record Leaves (P : Fact) {A : Type 0} (d : Deed A) : Type 0 where
-  pub held : (w : World) → P.ends w.states → Left P (d w)
+  pub held : (w : World) → P.ends w.modules w.states → Left P (d w)
 
 -- a derived store isn't set
 abbrev pub MaySet : Option AssignError → Type 0
 MaySet o = o ≡ Some ReadOnly → ⊥
 
--- it stays true whatever scripts do to the states, one thing at a time; derived stores settle behind what sets a store
+-- it stays true whatever code does, one thing at a time; derived stores settle behind what sets a store. What is left with an instance leaves its constants
 pub record Stays (p : Program) (P : Fact) : Type 0 where
-  pub left : (s : States) (f : Setup → Setup) (n : ℕ) → P.ends s → P.ends (with_instance (λ i. record i { setup = f i.setup }) s n)
-  pub declared : (s : States) (at : Subscriber) (v : Val) → P.ends s → P.ends (states_change.declared s at v)
-  pub subscribed : (s : States) (at : Subscriber) (source : Option ℕ) (v : Val) → P.ends s → P.ends (states_change.subscribed_to s at source v)
-  pub with_store : (s : States) (v : Val) → P.ends s → P.ends (states_change.with_store s v)
-  pub with_derived : (room : ℕ) (w w' : World) (owner : ℕ) (r : Recipe) (v : Val) → AreBelow r.inputs (length w.states.stores) → derive p room owner r w ≡ Ends v w' → P.ends w.states
-      → P.ends (states_change.with_derived w'.states owner r v)
-  pub settles : (room : ℕ) (w : World) → P.ends w.states → Left P (settled (derive p room) w)
-  pub assigned : (room : ℕ) (w : World) (n c : ℕ) (v : Val) → MaySet (assign_refusal w.states n c v) → P.ends w.states → Left P (settled (derive p room) (record w { states = states.assigned w.states n c v }))
-  pub store_set : (room : ℕ) (w : World) (id : ℕ) (v : Val) → MaySet (store_refusal w.states id) → P.ends w.states → Left P (settled (derive p room) (record w { states = states.store_set w.states id v }))
+  pub left : (ms : Modules) (s : States) (f : Setup → Setup) (n : ℕ) → ((u : Setup) → (f u).constants ≡ u.constants) → P.ends ms s → P.ends ms (with_instance (λ i. record i { setup = f i.setup }) s n)
+  pub declared : (ms : Modules) (s : States) (at : Subscriber) (v : Val) → P.ends ms s → P.ends ms (states_change.declared s at v)
+  pub subscribed : (ms : Modules) (s : States) (at : Subscriber) (source : Option ℕ) (v : Val) → P.ends ms s → P.ends ms (states_change.subscribed_to s at source v)
+  pub with_store : (ms : Modules) (s : States) (v : Val) → P.ends ms s → P.ends ms (states_change.with_store s v)
+  pub with_derived : (room : ℕ) (w w' : World) (owner : ℕ) (r : Recipe) (v : Val) → AreBelow r.inputs (length w.states.stores) → derive p room owner r w ≡ Ends v w' → P.ends w.modules w.states
+      → P.ends w'.modules (states_change.with_derived w'.states owner r v)
+  pub settles : (room : ℕ) (w : World) → P.ends w.modules w.states → Left P (settled (derive p room) w)
+  pub assigned : (room : ℕ) (w : World) (n c : ℕ) (v : Val) → MaySet (assign_refusal w.states n c v) → P.ends w.modules w.states → Left P (settled (derive p room) (record w { states = states.assigned w.states n c v }))
+  pub store_set : (room : ℕ) (w : World) (id : ℕ) (v : Val) → MaySet (store_refusal w.states id) → P.ends w.modules w.states → Left P (settled (derive p room) (record w { states = states.store_set w.states id v }))
 
-pub both_stay : {p : Program} {P R : States → Type 0} → Stays p (at_ends P) → Stays p (at_ends R) → Stays p (at_ends (λ s. P s × R s))
+-- and whatever the top of a file does besides: constants get their values, those of an instance or, where the owner is 0, those of a module file
+pub record Sets (owner : ℕ) (P : Modules → States → Type 0) : Type 0 where
+  pub constant : (w : World) (file n : ℕ) (v : Val) → P w.modules w.states → P (constant_set owner file n v w).modules (constant_set owner file n v w).states
+
+pub both_stay : {p : Program} {P R : Modules → States → Type 0} → Stays p (ending P) → Stays p (ending R) → Stays p (ending (λ ms s. P ms s × R ms s))
 both_stay {P = P} {R = R} h k = record {
-  left = λ s f n x. (h.left s f n x.0, k.left s f n x.1);
-  declared = λ s at v x. (h.declared s at v x.0, k.declared s at v x.1);
-  subscribed = λ s at source v x. (h.subscribed s at source v x.0, k.subscribed s at source v x.1);
-  with_store = λ s v x. (h.with_store s v x.0, k.with_store s v x.1);
+  left = λ ms s f n e x. (h.left ms s f n e x.0, k.left ms s f n e x.1);
+  declared = λ ms s at v x. (h.declared ms s at v x.0, k.declared ms s at v x.1);
+  subscribed = λ ms s at source v x. (h.subscribed ms s at source v x.0, k.subscribed ms s at source v x.1);
+  with_store = λ ms s v x. (h.with_store ms s v x.0, k.with_store ms s v x.1);
   with_derived = λ room w w' owner r v b e x. (h.with_derived room w w' owner r v b e x.0, k.with_derived room w w' owner r v b e x.1);
   settles = λ room w x. both_left _ (h.settles room w x.0) (k.settles room w x.1);
   assigned = λ room w n c v may x. both_left _ (h.assigned room w n c v may x.0) (k.assigned room w n c v may x.1);
   store_set = λ room w id v may x. both_left _ (h.store_set room w id v may x.0) (k.store_set room w id v may x.1);
 } where
-  both_left : {A : Type 0} (e : Ending A) → Left (at_ends P) e → Left (at_ends R) e → Left (at_ends (λ s. P s × R s)) e
+  both_left : {A : Type 0} (e : Ending A) → Left (ending P) e → Left (ending R) e → Left (ending (λ ms s. P ms s × R ms s)) e
   both_left (Ends a w) x y = (x, y)
   both_left (Fails kind s w) x y = tt
 
 -- what is true either way is true where something ends
-pub ends_left : (P : Fact) {A : Type 0} (e : Ending A) → Left P e → Left (at_ends P.ends) e
+pub ends_left : (P : Fact) {A : Type 0} (e : Ending A) → Left P e → Left (ending P.ends) e
 ends_left P (Ends a w) h = h
 ends_left P (Fails k s w) h = tt
 
-pub ends_stay : {p : Program} {P : Fact} → Stays p P → Stays p (at_ends P.ends)
+pub ends_stay : {p : Program} {P : Fact} → Stays p P → Stays p (ending P.ends)
 ends_stay {p = p} {P = P} h = record {
   left = h.left;
   declared = h.declared;
@@ -101,11 +118,11 @@ ends_stay {p = p} {P = P} h = record {
 }
 
 module _ (P : Fact) where
-  pub then_held : {A B : Type 0} (o : Outcome A) (go : A → Meaning B) → Held P o → ((a : A) (env : Env) (w : World) → P.ends w.states → Held P (go a env w)) → Held P (and_then o go)
+  pub then_held : {A B : Type 0} (o : Outcome A) (go : A → Meaning B) → Held P o → ((a : A) (env : Env) (w : World) → P.ends w.modules w.states → Held P (go a env w)) → Held P (and_then o go)
   then_held (Done a env w) go h k = k a env w h
   then_held (Failed kind s w) go h k = h
 
-  pub then_left : {A B : Type 0} (e : Ending A) (go : A → Deed B) → Left P e → ((a : A) (w : World) → P.ends w.states → Left P (go a w)) → Left P (then_do e go)
+  pub then_left : {A B : Type 0} (e : Ending A) (go : A → Deed B) → Left P e → ((a : A) (w : World) → P.ends w.modules w.states → Left P (go a w)) → Left P (then_do e go)
   then_left (Ends a w) go h k = k a w h
   then_left (Fails kind s w) go h k = h
 
@@ -113,10 +130,10 @@ module _ (P : Fact) where
   if_left true x y h k = h
   if_left false x y h k = k
 
-  pub unless_left : {A : Type 0} (o : Option AssignError) (s : Span) (d : Deed A) (w : World) → P.ends w.states → Left P (d w) → Left P (unless o s d w)
+  pub unless_left : {A : Type 0} (o : Option AssignError) (s : Span) (d : Deed A) (w : World) → P.ends w.modules w.states → Left P (d w) → Left P (unless o s d w)
   unless_left None s d w h k = k
-  unless_left (Some ReadOnly) s d w h k = P.weaker w.states h
-  unless_left (Some NotAStore) s d w h k = P.weaker w.states h
+  unless_left (Some ReadOnly) s d w h k = P.weaker w.modules w.states h
+  unless_left (Some NotAStore) s d w h k = P.weaker w.modules w.states h
   unless_left (Some NoMemory) s d w h k = k
 
   pub kept_held : {A : Type 0} (env : Env) (e : Ending A) → Left P e → Held P (kept env e)
@@ -137,7 +154,7 @@ module _ {P : Fact} where
   done_keeps a = record { held = λ env w h. h }
 
   pub failed_keeps : {A : Type 0} (k : FaultKind) (s : Span) → Keeps P {A = A} (λ env w. Failed k s w)
-  failed_keeps k s = record { held = λ env w h. P.weaker w.states h }
+  failed_keeps k s = record { held = λ env w h. P.weaker w.modules w.states h }
 
   pub either_keeps : {A : Type 0} (b : Bool) {m n : Meaning A} → Keeps P m → Keeps P n → Keeps P (either b m n)
   either_keeps true k l = k
@@ -145,8 +162,8 @@ module _ {P : Fact} where
 
   pub counted_keeps : {A : Type 0} (s : Span) {m : Meaning A} → Keeps P m → Keeps P (counted s m)
   counted_keeps s {m = m} k = record { held = λ env w h. go w.turn.steps env w h } where
-    go : (n : ℕ) (env : Env) (w : World) → P.ends w.states → Held P (counted_in n s m env w)
-    go zero env w h = P.weaker w.states h
+    go : (n : ℕ) (env : Env) (w : World) → P.ends w.modules w.states → Held P (counted_in n s m env w)
+    go zero env w h = P.weaker w.modules w.states h
     go (suc n) env w h = k.held env (with_steps n w) h
 
   -- ---- deeds
@@ -158,20 +175,20 @@ module _ {P : Fact} where
   ends_leaves a = record { held = λ w h. h }
 
   pub fails_leaves : {A : Type 0} (k : FaultKind) (s : Span) → Leaves P {A = A} (Fails k s)
-  fails_leaves k s = record { held = λ w h. P.weaker w.states h }
+  fails_leaves k s = record { held = λ w h. P.weaker w.modules w.states h }
 
   pub if_leaves : {A : Type 0} (b : Bool) {d e : Deed A} → Leaves P d → Leaves P e → Leaves P (if b then d else e)
   if_leaves true k l = k
   if_leaves false k l = l
 
   pub given_leaves : {A : Type 0} (k : FaultKind) (s : Span) (o : Option A) → Leaves P (given k s o)
-  given_leaves k s None = record { held = λ w h. P.weaker w.states h }
+  given_leaves k s None = record { held = λ w h. P.weaker w.modules w.states h }
   given_leaves k s (Some a) = record { held = λ w h. h }
 
   pub spent_leaves : {A : Type 0} (n : ℕ) (s : Span) {d : Deed A} → Leaves P d → Leaves P (spent n s d)
   spent_leaves n s {d = d} k = record { held = λ w h. go (less_by n w.turn.steps) w h } where
-    go : (o : Option ℕ) (w : World) → P.ends w.states → Left P (spent_in o s d w)
-    go None w h = P.weaker w.states h
+    go : (o : Option ℕ) (w : World) → P.ends w.modules w.states → Left P (spent_in o s d w)
+    go None w h = P.weaker w.modules w.states h
     go (Some steps) w h = k.held (with_steps steps w) h
 
   pub answered_leaves : (s : Span) (a : Answer) → Leaves P (answered s a)

@@ -20,8 +20,8 @@ use Rattle.sv_code.specs.declared.program.ProgramFile.{ProgramFile}
 use Rattle.sv_code.specs.declared.program.Run.{Run}
 use Rattle.sv_code.specs.declared.program.StoreCell.{StoreCell}
 use Rattle.sv_code.specs.declared.tags.Handler.{Handler}
-use Rattle.sv_frame.proofs.Outcomes.{Fact, Stays, Keeps, Leaves, Left, then_left, then_keeps, done_keeps, counted_keeps, then_leaves, ends_leaves, fails_leaves, given_leaves, answered_leaves, left_leaves}
-use Rattle.sv_frame.proofs.Statements.{value_or_keeps, constant_stays, subscribe_leaves, declare_keeps, in_order_keeps, valued_keeps, run_keeps, runs_keep}
+use Rattle.sv_frame.proofs.Outcomes.{Modules, Fact, Stays, Sets, Keeps, Leaves, Left, then_left, then_keeps, done_keeps, counted_keeps, then_leaves, ends_leaves, fails_leaves, given_leaves, answered_leaves, doing_keeps, left_leaves}
+use Rattle.sv_frame.proofs.Statements.{value_or_keeps, subscribe_leaves, subscribe_if_leaves, in_order_keeps, valued_keeps, run_keeps, runs_keep}
 use Rattle.sv_frame.proofs.Values.{Each, expr_keeps}
 use Rattle.sv_frame.proofs.Calls.{DerivesAs, CallerKeeps, value_leaves, make_leaves}
 use Rattle.sv_meaning.specs.Calls.{Caller, first, second}
@@ -30,17 +30,17 @@ use Rattle.sv_meaning.specs.Env.{Env}
 use Rattle.sv_meaning.specs.Derived.{running}
 use Rattle.sv_meaning.specs.Functions.{Teller, Mode, dispatched, dispatch, event_fields, entered, env_of, found, if_there, returned, called_within, caller}
 use Rattle.sv_meaning.specs.Listeners.{heard_value, heard_result, heard_on, heard, heard_if, heard_attr, heard_by, heard_from, handler_of, is_named, listener_view, Hearer, hearer_of, attrs_of, told, teller}
-use Rattle.sv_meaning.specs.Outcome.{Fails, Meaning, Deed, given}
+use Rattle.sv_meaning.specs.Outcome.{Fails, Meaning, Deed, Next, given}
 use Rattle.sv_meaning.specs.Parts.{part_value}
-use Rattle.sv_meaning.specs.Runs.{world_ground, calls, each_in_turn, function_set, functions_set, given_for, prop_value, prop_declared, top_kind, top, script, modules_opened, run_module, run_modules, cell_opened, cells_opened, view_opened, name_opened, name_subscribed, opened, run_component, run_top, is_due, inner, run_at, run_due, run_reactive, called, settle}
+use Rattle.sv_meaning.specs.Runs.{world_ground, calls, each_in_turn, function_set, functions_set, given_for, declarations, prop_value, top_declared, top_or, top, script, modules_opened, run_module, run_modules, cell_opened, cells_opened, view_opened, name_opened, name_subscribed, opened, run_component, run_top, is_due, inner, run_at, run_due, run_reactive, called, settle}
 use Rattle.sv_meaning.specs.Sight.{Ground, ground_in, is_there}
 use Rattle.sv_meaning.specs.Sources.{source, source_of}
-use Rattle.sv_meaning.specs.Statements.{subscribe}
+use Rattle.sv_meaning.specs.Statements.{initialized, variable, subscribe, declare}
 use Rattle.sv_meaning.specs.declared.limits.TheConstants.{CALL_LIMIT}
 use Rattle.sv_ops.specs.Answer.{object_made}
 use Rattle.sv_ops.specs.declared.faults.Fault.{Fault}
 use Rattle.sv_ops.specs.declared.faults.FaultKind.TheVariants.{NotText, NotAFunction, CallDepth, UseBeforeInit}
-use Rattle.sv_states.specs.States.{live, value_in}
+use Rattle.sv_states.specs.States.{States, live, value_in}
 use Rattle.sv_states.specs.declared.states.TheConstants.{DEPTH_LIMIT}
 use Rattle.sv_value.specs.Value.{Val, Vals, undefined, null, boolean, number, text, list, object, function, store, items, none}
 use Rattle.sv_view.specs.Constants.{module_constant_at}
@@ -85,9 +85,9 @@ module _ {p : Program} {P : Fact} (stays : Stays p P) where
     found_leaves g call k (Some f) o held args s = entered_leaves g call k f.body o (env_of f held args) args s
 
   module _ (mode : Mode) (keeps : ModeKeeps p P mode) where
-    there_left : (b : Bool) (s : Span) (d : Deed Val) (w : World) → Leaves P d → P.ends w.states → Left P (if_there b s d w)
+    there_left : (b : Bool) (s : Span) (d : Deed Val) (w : World) → Leaves P d → P.ends w.modules w.states → Left P (if_there b s d w)
     there_left true s d w k h = k.held w h
-    there_left false s d w k h = P.weaker w.states h
+    there_left false s d w k h = P.weaker w.modules w.states h
 
     -- a call, with so many more that may be open
     within_leaves : (g : Ground) (room c o : ℕ) (held : Vals) (args : List Val) (s : Span) → Leaves P (called_within mode g room c o held args s)
@@ -173,34 +173,34 @@ module _ {p : Program} {P : Fact} (stays : Stays p P) where
   in_turn_leaves f [] k = ends_leaves tt
   in_turn_leaves f (x ∷ xs) k = then_leaves (k x) (λ u. in_turn_leaves f xs k)
 
-  function_stays : (owner : ℕ) (s : Span) (x : CodeStmtKind-F CodeStmtKind CodeArm CodeStmt) (w : World) → P.ends w.states → P.ends (function_set owner s x w).states
-  function_stays owner s (CodeStmtKind-F.Function x exported (known.Constant n) c) w h = constant_stays stays owner s.file n (function c owner none) w h
-  function_stays owner s (CodeStmtKind-F.Function x exported (known.Local n) c) w h = h
-  function_stays owner s (CodeStmtKind-F.Function x exported (known.Cell n) c) w h = h
-  function_stays owner s (CodeStmtKind-F.Function x exported (known.Export file n) c) w h = h
-  function_stays owner s (CodeStmtKind-F.Function x exported (known.Life l) c) w h = h
-  function_stays owner s (CodeStmtKind-F.Function x exported known.Writable c) w h = h
-  function_stays owner s (CodeStmtKind-F.Function x exported known.Derived c) w h = h
-  function_stays owner s (CodeStmtKind-F.Function x exported (known.BuiltIn b) c) w h = h
-  function_stays owner s CodeStmtKind-F.Empty w h = h
-  function_stays owner s (CodeStmtKind-F.Block names ms) w h = h
-  function_stays owner s (CodeStmtKind-F.Let ds) w h = h
-  function_stays owner s (CodeStmtKind-F.Const ds exported) w h = h
-  function_stays owner s (CodeStmtKind-F.If arms last) w h = h
-  function_stays owner s (CodeStmtKind-F.While test body) w h = h
-  function_stays owner s (CodeStmtKind-F.For names first test next body) w h = h
-  function_stays owner s (CodeStmtKind-F.Each x fixed e body) w h = h
-  function_stays owner s CodeStmtKind-F.Break w h = h
-  function_stays owner s CodeStmtKind-F.Continue w h = h
-  function_stays owner s (CodeStmtKind-F.Return e) w h = h
-  function_stays owner s (CodeStmtKind-F.Eval e) w h = h
-  function_stays owner s (CodeStmtKind-F.Import i) w h = h
-  function_stays owner s (CodeStmtKind-F.Export ds) w h = h
-  function_stays owner s (CodeStmtKind-F.React m) w h = h
+  function_stays : (owner : ℕ) → Sets owner P.ends → (s : Span) (x : CodeStmtKind-F CodeStmtKind CodeArm CodeStmt) (w : World) → P.ends w.modules w.states → P.ends (function_set owner s x w).modules (function_set owner s x w).states
+  function_stays owner sets s (CodeStmtKind-F.Function x exported (known.Constant n) c) w h = sets.constant w s.file n (function c owner none) h
+  function_stays owner sets s (CodeStmtKind-F.Function x exported (known.Local n) c) w h = h
+  function_stays owner sets s (CodeStmtKind-F.Function x exported (known.Cell n) c) w h = h
+  function_stays owner sets s (CodeStmtKind-F.Function x exported (known.Export file n) c) w h = h
+  function_stays owner sets s (CodeStmtKind-F.Function x exported (known.Life l) c) w h = h
+  function_stays owner sets s (CodeStmtKind-F.Function x exported known.Writable c) w h = h
+  function_stays owner sets s (CodeStmtKind-F.Function x exported known.Derived c) w h = h
+  function_stays owner sets s (CodeStmtKind-F.Function x exported (known.BuiltIn b) c) w h = h
+  function_stays owner sets s CodeStmtKind-F.Empty w h = h
+  function_stays owner sets s (CodeStmtKind-F.Block names ms) w h = h
+  function_stays owner sets s (CodeStmtKind-F.Let ds) w h = h
+  function_stays owner sets s (CodeStmtKind-F.Const ds exported) w h = h
+  function_stays owner sets s (CodeStmtKind-F.If arms last) w h = h
+  function_stays owner sets s (CodeStmtKind-F.While test body) w h = h
+  function_stays owner sets s (CodeStmtKind-F.For names first test next body) w h = h
+  function_stays owner sets s (CodeStmtKind-F.Each x fixed e body) w h = h
+  function_stays owner sets s CodeStmtKind-F.Break w h = h
+  function_stays owner sets s CodeStmtKind-F.Continue w h = h
+  function_stays owner sets s (CodeStmtKind-F.Return e) w h = h
+  function_stays owner sets s (CodeStmtKind-F.Eval e) w h = h
+  function_stays owner sets s (CodeStmtKind-F.Import i) w h = h
+  function_stays owner sets s (CodeStmtKind-F.Export ds) w h = h
+  function_stays owner sets s (CodeStmtKind-F.React m) w h = h
 
-  functions_stay : (owner : ℕ) (stmts : List CodeStmt) (w : World) → P.ends w.states → P.ends (functions_set owner stmts w).states
-  functions_stay owner [] w h = h
-  functions_stay owner (s ∷ stmts) w h = functions_stay owner stmts (function_set owner s.span (out-CodeStmtKind s.kind) w) (function_stays owner s.span (out-CodeStmtKind s.kind) w h)
+  functions_stay : (owner : ℕ) → Sets owner P.ends → (stmts : List CodeStmt) (w : World) → P.ends w.modules w.states → P.ends (functions_set owner stmts w).modules (functions_set owner stmts w).states
+  functions_stay owner sets [] w h = h
+  functions_stay owner sets (s ∷ stmts) w h = functions_stay owner sets stmts (function_set owner s.span (out-CodeStmtKind s.kind) w) (function_stays owner sets s.span (out-CodeStmtKind s.kind) w h)
 
   prop_value_keeps : (v : Val) {first : Meaning Val} → Keeps P first → Keeps P (prop_value v first)
   prop_value_keeps undefined k = k
@@ -213,79 +213,103 @@ module _ {p : Program} {P : Fact} (stays : Stays p P) where
   prop_value_keeps (function c o held) k = done_keeps (function c o held)
   prop_value_keeps (store id) k = done_keeps (store id)
 
-  module _ (owner : ℕ) (props : List (ℕ × Val)) where
-    prop_keeps : (d : CodeDecl) → Keeps P (prop_declared p owner props d)
-    prop_keeps d =
-        then_keeps (prop_value_keeps (given_for props d.target) (value_or_keeps stays _ (valued_keeps stays (world_ground p) (calls p) calls_keep owner d.first))) (declare_keeps stays owner d)
+  -- a name at the top gets its first value
+  initialized_stays : (owner : ℕ) → Sets owner P.ends → (x : Known) (s : Span) (v : Val) (w : World) → P.ends w.modules w.states → P.ends (initialized owner x s v w).modules (initialized owner x s v w).states
+  initialized_stays owner sets (known.Cell n) s v w h = stays.declared w.modules w.states (record { inst = owner; cell = n }) v h
+  initialized_stays owner sets (known.Constant n) s v w h = sets.constant w s.file n v h
+  initialized_stays owner sets (known.Local x) s v w h = h
+  initialized_stays owner sets (known.Export file n) s v w h = h
+  initialized_stays owner sets (known.Life l) s v w h = h
+  initialized_stays owner sets known.Writable s v w h = h
+  initialized_stays owner sets known.Derived s v w h = h
+  initialized_stays owner sets (known.BuiltIn b) s v w h = h
 
-    props_keep : (ds : List CodeDecl) → Each (Keeps P) (map (prop_declared p owner props) ds)
-    props_keep [] = tt
-    props_keep (d ∷ ds) = (prop_keeps d, props_keep ds)
+  module _ (owner : ℕ) (sets : Sets owner P.ends) (props : List (ℕ × Val)) where
+    declare_leaves : (d : CodeDecl) (v : Val) → Leaves P (declare owner d v)
+    declare_leaves d v =
+        record { held = λ w h. (subscribe_if_leaves stays d.store owner (variable d.target) d.name.span v).held (initialized owner d.target d.name.span v w) (initialized_stays owner sets d.target d.name.span v w h) }
 
-    top_kind_keeps : (x : CodeStmtKind-F CodeStmtKind CodeArm CodeStmt) (s : CodeStmt) → Keeps P (top_kind p owner props x s)
-    top_kind_keeps (CodeStmtKind-F.Export ds) s = counted_keeps s.span (in_order_keeps stays _ (props_keep ds))
-    top_kind_keeps _ s = run_keeps stays (world_ground p) (calls p) calls_keep owner s
+    declared_keeps : (d : CodeDecl) → Keeps P (top_declared p owner props d)
+    declared_keeps d =
+        then_keeps (prop_value_keeps (given_for props d.target) (value_or_keeps stays _ (valued_keeps stays (world_ground p) (calls p) calls_keep owner d.first)))
+        (λ v. doing_keeps (then_leaves (declare_leaves d v) (λ u. ends_leaves Next)))
+
+    all_declared_keep : (ds : List CodeDecl) → Each (Keeps P) (map (top_declared p owner props) ds)
+    all_declared_keep [] = tt
+    all_declared_keep (d ∷ ds) = (declared_keeps d, all_declared_keep ds)
+
+    top_keeps : (o : Option (List CodeDecl)) (s : CodeStmt) → Keeps P (top_or p owner props o s)
+    top_keeps (Some ds) s = counted_keeps s.span (in_order_keeps stays _ (all_declared_keep ds))
+    top_keeps None s = run_keeps stays (world_ground p) (calls p) calls_keep owner s
 
     tops_keep : (stmts : List CodeStmt) → Each (Keeps P) (map (top p owner props) stmts)
     tops_keep [] = tt
-    tops_keep (s ∷ stmts) = (top_kind_keeps (out-CodeStmtKind s.kind) s, tops_keep stmts)
+    tops_keep (s ∷ stmts) = (top_keeps (declarations (out-CodeStmtKind s.kind)) s, tops_keep stmts)
 
     script_leaves : (stmts : List CodeStmt) → Leaves P (script p owner props stmts)
     script_leaves stmts = then_leaves (left_leaves [] (in_order_keeps stays _ (tops_keep stmts))) (λ f. ends_leaves tt)
 
   -- ---- module files
 
-  file_left : (c : FileCode) (f : ProgramFile) (w : World) → P.ends w.states → Left P (run_module p (Some (record f { code = c })) w)
-  file_left (file_code.Component c) f w h = h
-  file_left (file_code.Module m) f w h = (script_leaves 0 [] m.script).held (functions_set 0 m.script w) (functions_stay 0 m.script w h)
+  -- it is so whatever constants module files have
+  module _ (free : (ms ms' : Modules) (s : States) → P.ends ms s → P.ends ms' s) where
+    module_sets : Sets 0 P.ends
+    module_sets = record { constant = λ w file n v h. free w.modules _ w.states h }
 
-  module_leaves : (o : Option ProgramFile) → Leaves P (run_module p o)
-  module_leaves None = ends_leaves tt
-  module_leaves (Some f) = record { held = λ w h. file_left f.code f w h }
+    file_left : (c : FileCode) (f : ProgramFile) (w : World) → P.ends w.modules w.states → Left P (run_module p (Some (record f { code = c })) w)
+    file_left (file_code.Component c) f w h = h
+    file_left (file_code.Module m) f w h = (script_leaves 0 module_sets [] m.script).held (functions_set 0 m.script w) (functions_stay 0 module_sets m.script w h)
 
-  pub modules_leave : Leaves P (run_modules p)
-  modules_leave = record { held = λ w h. (in_turn_leaves (λ n. run_module p (slice_get p.files n)) p.modules (λ n. module_leaves (slice_get p.files n))).held (modules_opened p w) h }
+    module_leaves : (o : Option ProgramFile) → Leaves P (run_module p o)
+    module_leaves None = ends_leaves tt
+    module_leaves (Some f) = record { held = λ w h. file_left f.code f w h }
+
+    pub modules_leave : Leaves P (run_modules p)
+    modules_leave = record {
+      held = λ w h. (in_turn_leaves (λ n. run_module p (slice_get p.files n)) p.modules (λ n. module_leaves (slice_get p.files n))).held (modules_opened p w) (free w.modules (modules_opened p w).modules w.states h);
+    }
 
   -- ---- components
 
-  cells_stay : (owner : ℕ) (cells : List ℕ) (w : World) → P.ends w.states → P.ends (cells_opened owner cells w).states
+  cells_stay : (owner : ℕ) (cells : List ℕ) (w : World) → P.ends w.modules w.states → P.ends (cells_opened owner cells w).modules (cells_opened owner cells w).states
   cells_stay owner [] w h = h
-  cells_stay owner (n ∷ cells) w h = cells_stay owner cells (cell_opened owner w n) (stays.declared w.states (record { inst = owner; cell = n }) undefined h)
+  cells_stay owner (n ∷ cells) w h = cells_stay owner cells (cell_opened owner w n) (stays.declared w.modules w.states (record { inst = owner; cell = n }) undefined h)
 
-  view_stays : (owner : ℕ) (o : Option ℕ) (w : World) → P.ends w.states → P.ends (view_opened owner o w).states
+  view_stays : (owner : ℕ) (o : Option ℕ) (w : World) → P.ends w.modules w.states → P.ends (view_opened owner o w).modules (view_opened owner o w).states
   view_stays owner None w h = h
-  view_stays owner (Some n) w h = stays.declared w.states (record { inst = owner; cell = n }) undefined h
+  view_stays owner (Some n) w h = stays.declared w.modules w.states (record { inst = owner; cell = n }) undefined h
 
-  opened_stays : (c : Component) (owner : ℕ) (w : World) → P.ends w.states → P.ends (opened c owner w).states
-  opened_stays c owner w h = functions_stay owner c.script _ (view_stays owner c.view _ (cells_stay owner c.reactive w h))
+  opened_stays : (c : Component) (owner : ℕ) → Sets owner P.ends → (w : World) → P.ends w.modules w.states → P.ends (opened c owner w).modules (opened c owner w).states
+  opened_stays c owner sets w h = functions_stay owner sets c.script _ (view_stays owner c.view _ (cells_stay owner c.reactive w h))
 
-  name_left : (o : Option Val) (owner n : ℕ) (x : StoreCell) (w : World) → P.ends w.states → Left P (name_opened o owner n x w)
+  name_left : (o : Option Val) (owner n : ℕ) (x : StoreCell) (w : World) → P.ends w.modules w.states → Left P (name_opened o owner n x w)
   name_left None owner n x w h = h
   name_left (Some v) owner n x w h = (subscribe_leaves stays owner x.cell (Some n) x.span v).held w h
 
-  holder_left : (owner : ℕ) (k : Known) (x : StoreCell) (w : World) → P.ends w.states → Left P (name_subscribed owner (record x { holder = k }) w)
+  holder_left : (owner : ℕ) (k : Known) (x : StoreCell) (w : World) → P.ends w.modules w.states → Left P (name_subscribed owner (record x { holder = k }) w)
   holder_left owner (known.Export file n) x w h =
       then_left P (given UseBeforeInit x.span (module_constant_at w.modules file n) w) (subscribe owner x.cell None x.span) ((given_leaves {P = P} UseBeforeInit x.span (module_constant_at w.modules file n)).held w h)
       (λ v w' h'. (subscribe_leaves stays owner x.cell None x.span v).held w' h')
-  holder_left owner (known.Local n) x w h = P.weaker w.states h
+  holder_left owner (known.Local n) x w h = P.weaker w.modules w.states h
   holder_left owner (known.Cell n) x w h = name_left (value_in (live w.states owner) n) owner n (record x { holder = known.Cell n }) w h
   holder_left owner (known.Constant n) x w h = h
-  holder_left owner (known.Life l) x w h = P.weaker w.states h
-  holder_left owner known.Writable x w h = P.weaker w.states h
-  holder_left owner known.Derived x w h = P.weaker w.states h
-  holder_left owner (known.BuiltIn b) x w h = P.weaker w.states h
+  holder_left owner (known.Life l) x w h = P.weaker w.modules w.states h
+  holder_left owner known.Writable x w h = P.weaker w.modules w.states h
+  holder_left owner known.Derived x w h = P.weaker w.modules w.states h
+  holder_left owner (known.BuiltIn b) x w h = P.weaker w.modules w.states h
 
   name_leaves : (owner : ℕ) (x : StoreCell) → Leaves P (name_subscribed owner x)
   name_leaves owner x = record { held = λ w h. holder_left owner x.holder x w h }
 
-  component_leaves : (c : Component) (owner : ℕ) (props : List (ℕ × Val)) → Leaves P (run_component p c owner props)
-  component_leaves c owner props = then_leaves (record { held = λ w h. (in_turn_leaves (name_subscribed owner) c.stores (name_leaves owner)).held (opened c owner w) (opened_stays c owner w h) }) (λ u. script_leaves owner props c.script)
+  component_leaves : (c : Component) (owner : ℕ) → Sets owner P.ends → (props : List (ℕ × Val)) → Leaves P (run_component p c owner props)
+  component_leaves c owner sets props =
+      then_leaves (record { held = λ w h. (in_turn_leaves (name_subscribed owner) c.stores (name_leaves owner)).held (opened c owner w) (opened_stays c owner sets w h) }) (λ u. script_leaves owner sets props c.script)
 
-  pub top_leaves : (i : ℕ) (props : List (ℕ × Val)) → Leaves P (run_top p i props)
-  top_leaves i props = record { held = λ w h. by w (component_of p w i) refl h } where
-    by : (w : World) (o : Option Component) → component_of p w i ≡ o → P.ends w.states → Left P (run_top p i props w)
+  pub top_leaves : (i : ℕ) → Sets i P.ends → (props : List (ℕ × Val)) → Leaves P (run_top p i props)
+  top_leaves i sets props = record { held = λ w h. by w (component_of p w i) refl h } where
+    by : (w : World) (o : Option Component) → component_of p w i ≡ o → P.ends w.modules w.states → Left P (run_top p i props w)
     by w None e h = rw e h
-    by w (Some c) e h = rw e ((component_leaves c i props).held w h)
+    by w (Some c) e h = rw e ((component_leaves c i sets props).held w h)
 
   -- ---- reactive statements
 
@@ -295,12 +319,12 @@ module _ {p : Program} {P : Fact} (stays : Stays p P) where
 
   due_leaves : (all : Bool) (i : ℕ) (stmts : List CodeStmt) (r : Run) → Leaves P (run_due p all i stmts r)
   due_leaves all i stmts r = record { held = λ w h. by w (is_due all i r w) refl h } where
-    by : (w : World) (b : Bool) → is_due all i r w ≡ b → P.ends w.states → Left P (run_due p all i stmts r w)
+    by : (w : World) (b : Bool) → is_due all i r w ≡ b → P.ends w.modules w.states → Left P (run_due p all i stmts r w)
     by w true e h = rw e ((at_leaves i (slice_get stmts r.stmt)).held w h)
     by w false e h = rw e h
 
   pub reactive_leaves : (i : ℕ) (all : Bool) → Leaves P (run_reactive p i all)
   reactive_leaves i all = record { held = λ w h. by w (component_of p w i) refl h } where
-    by : (w : World) (o : Option Component) → component_of p w i ≡ o → P.ends w.states → Left P (run_reactive p i all w)
+    by : (w : World) (o : Option Component) → component_of p w i ≡ o → P.ends w.modules w.states → Left P (run_reactive p i all w)
     by w None e h = rw e h
     by w (Some c) e h = rw e ((in_turn_leaves (run_due p all i c.script) c.runs (due_leaves all i c.script)).held w h)

@@ -1,5 +1,5 @@
 -- What stays true of the states while statements run.
-use Rattle.std.proofs.Common.{◌≡◌, ℕ, zero, suc, Bool, true, false, List, [], ◌∷◌, ◌++◌, map, length, take, Option, Some, None, sym, subst, nat_eq, slice_set, if◌then◌else◌}
+use Rattle.std.proofs.Common.{◌≡◌, ℕ, zero, suc, true, List, [], ◌∷◌, ◌++◌, map, length, take, Option, Some, None, sym, subst}
 use Rattle.sv_base.specs.declared.names.Name.{Name}
 use Rattle.sv_base.specs.declared.span.Span.{Span}
 use Rattle.sv_code.specs.declared.code.Code.{Code}
@@ -7,22 +7,19 @@ use Rattle.sv_code.specs.declared.functions.CodeArm.{CodeArm, CodeArm-F, roll-Co
 use Rattle.sv_code.specs.declared.functions.CodeDecl.{CodeDecl}
 use Rattle.sv_code.specs.declared.functions.CodeStmt.{CodeStmt, CodeStmt-F, roll-CodeStmt, map-CodeStmt, fold-roll-CodeStmt, ind-CodeStmt}
 use Rattle.sv_code.specs.declared.functions.CodeStmtKind.{CodeStmtKind, CodeStmtKind-F, roll-CodeStmtKind, map-CodeStmtKind, fold-roll-CodeStmtKind}
-use Rattle.sv_code.specs.declared.known.Known.{Known}
-use Rattle.sv_code.specs.declared.known.Known.TheVariants as known
 use Rattle.sv_code.specs.declared.program.Program.{Program}
-use Rattle.sv_frame.proofs.Outcomes.{Fact, Stays, Keeps, Leaves, if_left, then_held, then_keeps, done_keeps, failed_keeps, either_keeps, counted_keeps, ends_leaves, doing_keeps}
+use Rattle.sv_frame.proofs.Outcomes.{Fact, Stays, Keeps, Leaves, if_left, then_held, then_keeps, done_keeps, failed_keeps, either_keeps, counted_keeps, ends_leaves}
 use Rattle.sv_frame.proofs.Values.{Each, each_made, Maybe, expr_keeps}
 use Rattle.sv_frame.proofs.Calls.{CallerKeeps}
 use Rattle.sv_meaning.specs.Calls.{Caller}
 use Rattle.sv_meaning.specs.Env.{Env, opened}
 use Rattle.sv_meaning.specs.Outcome.{Fails, Done, Meaning, Flow, Next, Broken, Continued, Returned}
 use Rattle.sv_meaning.specs.Sight.{Ground}
-use Rattle.sv_meaning.specs.Statements.{value_or, constant_set, initialized, variable, may_show, subscribe, subscribe_if, declare, go_on, in_order, after_turn, tested, turns, loop, scoped, item_turns, over_list, each_step, otherwise, for_step, Doing, Silent, Counts, done, Arm, first_of, valued, decl_of, stmt_kind_step, stmt_step, arm_step, run, doing_of, arm_of}
+use Rattle.sv_meaning.specs.Statements.{value_or, may_show, subscribe, subscribe_if, go_on, in_order, after_turn, tested, turns, loop, scoped, item_turns, over_list, each_step, otherwise, for_step, Doing, Silent, Counts, done, Arm, first_of, valued, decl_of, stmt_kind_step, stmt_step, arm_step, run, doing_of, arm_of}
 use Rattle.sv_meaning.specs.Values.{value}
 use Rattle.sv_ops.specs.declared.faults.FaultKind.TheVariants.{NotAList, NotAStore, Steps}
 use Rattle.sv_value.specs.Change.{truthy}
 use Rattle.sv_value.specs.Value.{Val, undefined, null, boolean, number, text, list, object, function, store, items}
-use Rattle.sv_world.specs.declared.world.World.{World}
 
 module _ {p : Program} {P : Fact} (stays : Stays p P) where
   -- ---- declarations
@@ -31,32 +28,12 @@ module _ {p : Program} {P : Fact} (stays : Stays p P) where
   value_or_keeps None h = done_keeps undefined
   value_or_keeps (Some m) h = h
 
-  if_stays : (b : Bool) (x y : World) → P.ends x.states → P.ends y.states → P.ends (if b then x else y).states
-  if_stays true x y h k = h
-  if_stays false x y h k = k
-
-  pub constant_stays : (owner file n : ℕ) (v : Val) (w : World) → P.ends w.states → P.ends (constant_set owner file n v w).states
-  constant_stays owner file n v w h = if_stays (nat_eq owner 0) _ _ h (stays.left w.states (λ u. record u { constants = slice_set u.constants n (Some v) }) owner h)
-
-  initialized_keeps : (owner : ℕ) (x : Known) (s : Span) (v : Val) → Keeps P (initialized owner x s v)
-  initialized_keeps owner (known.Local x) s v = record { held = λ env w h. h }
-  initialized_keeps owner (known.Cell n) s v = record { held = λ env w h. stays.declared w.states (record { inst = owner; cell = n }) v h }
-  initialized_keeps owner (known.Constant n) s v = record { held = λ env w h. constant_stays owner s.file n v w h }
-  initialized_keeps owner (known.Export file n) s v = done_keeps v
-  initialized_keeps owner (known.Life l) s v = done_keeps v
-  initialized_keeps owner known.Writable s v = done_keeps v
-  initialized_keeps owner known.Derived s v = done_keeps v
-  initialized_keeps owner (known.BuiltIn b) s v = done_keeps v
-
   pub subscribe_leaves : (owner cell : ℕ) (source : Option ℕ) (s : Span) (v : Val) → Leaves P (subscribe owner cell source s v)
-  subscribe_leaves owner cell source s v = record { held = λ w h. if_left P (may_show source v) _ (Fails NotAStore s w) (stays.subscribed w.states (record { inst = owner; cell = cell }) source v h) (P.weaker w.states h) }
+  subscribe_leaves owner cell source s v = record { held = λ w h. if_left P (may_show source v) _ (Fails NotAStore s w) (stays.subscribed w.modules w.states (record { inst = owner; cell = cell }) source v h) (P.weaker w.modules w.states h) }
 
-  subscribe_if_leaves : (o : Option ℕ) (owner : ℕ) (source : Option ℕ) (s : Span) (v : Val) → Leaves P (subscribe_if o owner source s v)
+  pub subscribe_if_leaves : (o : Option ℕ) (owner : ℕ) (source : Option ℕ) (s : Span) (v : Val) → Leaves P (subscribe_if o owner source s v)
   subscribe_if_leaves None owner source s v = ends_leaves tt
   subscribe_if_leaves (Some cell) owner source s v = subscribe_leaves owner cell source s v
-
-  pub declare_keeps : (owner : ℕ) (d : CodeDecl) (v : Val) → Keeps P (declare owner d v)
-  declare_keeps owner d v = then_keeps (initialized_keeps owner d.target d.name.span v) (λ u. then_keeps (doing_keeps (subscribe_if_leaves d.store owner (variable d.target) d.name.span u)) (λ t. done_keeps Next))
 
   go_on_keeps : (f : Flow) {m : Meaning Flow} → Keeps P m → Keeps P (go_on f m)
   go_on_keeps Next k = k
@@ -140,7 +117,7 @@ module _ {p : Program} {P : Fact} (stays : Stays p P) where
     valued_keeps (Some c) = expr_keeps stays g call calls owner c
 
     decl_keeps : (d : CodeDecl) → Keeps P (decl_of g call owner d)
-    decl_keeps d = then_keeps (value_or_keeps (valued g call owner d.first) (valued_keeps d.first)) (declare_keeps owner d)
+    decl_keeps d = then_keeps (value_or_keeps (valued g call owner d.first) (valued_keeps d.first)) (λ v. record { held = λ env w h. h })
 
     decls_keep : (ds : List CodeDecl) → Each (Keeps P) (map (decl_of g call owner) ds)
     decls_keep [] = tt

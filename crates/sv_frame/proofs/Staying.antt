@@ -1,6 +1,6 @@
 -- Behind whatever scripts do, derived stores are what their functions gave.
 use Rattle.std.proofs.Common.{◌≡◌, ℕ, zero, suc, ◌<◌, List, [], ◌∷◌, length, Option, Some, None, refl, sym, ap, ◌∙◌, arith, Bool, true, false, nat_eq, subst, ⊎_elim, is_some, if◌then◌else◌}
-use Rattle.std.specs.Prelude.{not, ◌&&◌, ◌||◌}
+use Rattle.std.specs.Prelude.{◌||◌}
 use Rattle.std.proofs.lemmas.Bool.{cases_Bool, true≢false}
 use Rattle.std.proofs.lemmas.Option.{none-some}
 use Rattle.sv_code.specs.declared.program.Program.{Program}
@@ -11,6 +11,7 @@ use Rattle.sv_frame.proofs.Computing.{Standing, Calm, calm-same, calm-then, calm
 use Rattle.sv_frame.proofs.Deriving.{derive-same}
 use Rattle.sv_frame.proofs.Outcomes.{at_ends, Left, MaySet, Stays}
 use Rattle.sv_frame.proofs.Settling.{Settled, settles-all}
+use Rattle.sv_frame.proofs.Stepping.{Setups}
 use Rattle.sv_frame.proofs.Stored.{value-more, value-last, value-dropped, inputs-same, IsOne, found-one, found-more}
 use Rattle.sv_frame.specs.Computed.{IsComputed, AreComputed}
 use Rattle.sv_frame.specs.Snapshots.{world_of}
@@ -200,12 +201,15 @@ module _ {p : Program} where
 
   -- ---- whatever scripts do
 
+  pub computed-setups : Setups (AreComputed p)
+  computed-setups s f n h = computed-calm s (with_instance (λ i. record i { setup = f i.setup }) s n) (record { derived = refl; count = refl; values = λ id. refl }) h
+
   pub computed_stay : Stays p (at_ends (AreComputed p))
   computed_stay = record {
-    left = λ s f n h. computed-calm s (with_instance (λ i. record i { setup = f i.setup }) s n) (record { derived = refl; count = refl; values = λ id. refl }) h;
-    declared = λ s q v h. computed-calm s _ (record { derived = refl; count = refl; values = λ id. refl }) h;
-    subscribed = λ s q source v h. computed-calm s _ (calm-subscribed s q source v) h;
-    with_store = λ s v h. computed-store s v h;
+    left = λ ms s f n e h. computed-setups s f n h;
+    declared = λ ms s q v h. computed-calm s _ (record { derived = refl; count = refl; values = λ id. refl }) h;
+    subscribed = λ ms s q source v h. computed-calm s _ (calm-subscribed s q source v) h;
+    with_store = λ ms s v h. computed-store s v h;
     with_derived = λ room w w' owner r v below gave h. computed-derived room w w' owner r v below gave h;
     settles = λ room w h. computed_behind room w (computed-standing w.states h);
     assigned = λ room w n c v may h. computed_behind room (record w { states = assigned w.states n c v }) (standing-assigned w.states n c v may (computed-standing w.states h));

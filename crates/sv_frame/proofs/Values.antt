@@ -1,5 +1,5 @@
 -- What stays true of the states while expressions are evaluated.
-use Rattle.std.proofs.Common.{◌≡◌, ℕ, sym, subst, Bool, true, false, List, [], ◌∷◌, ◌++◌, map, length, Option, Some, None, is_some, slice_get, if◌then◌else◌}
+use Rattle.std.proofs.Common.{◌≡◌, ℕ, refl, sym, subst, Bool, true, false, List, [], ◌∷◌, ◌++◌, map, length, Option, Some, None, is_some, slice_get, if◌then◌else◌}
 use Rattle.std.specs.Prelude.{not, ◌&&◌}
 use Rattle.sv_ast.specs.declared.operators.AssignOp.{AssignOp}
 use Rattle.sv_ast.specs.declared.operators.AssignOp.TheVariants as assign
@@ -159,7 +159,7 @@ module _ {p : Program} {P : Fact} (stays : Stays p P) where
   -- ---- what `svelte` gives
 
   at_leaves : (at : When) (owner : ℕ) (s : Span) (f : Val) → Leaves P (call_at at owner s f)
-  at_leaves at owner s f = record { held = λ w h. if_left P (is_function f) _ (Fails NotAFunction s w) (stays.left w.states (λ u. record u { callbacks = with_callback at f u.callbacks }) owner h) (P.weaker w.states h) }
+  at_leaves at owner s f = record { held = λ w h. if_left P (is_function f) _ (Fails NotAFunction s w) (stays.left w.modules w.states (λ u. record u { callbacks = with_callback at f u.callbacks }) owner (λ u. refl) h) (P.weaker w.modules w.states h) }
 
   keyed_leaves : (o : Option Key) (s : Span) {go : Key → Deed Val} → ((k : Key) → Leaves P (go k)) → Leaves P (keyed o s go)
   keyed_leaves None s k = fails_leaves BadKey s
@@ -170,7 +170,7 @@ module _ {p : Program} {P : Fact} (stays : Stays p P) where
   life_leaves life.BeforeUpdate owner s args = at_leaves when.Before owner s (first args)
   life_leaves life.AfterUpdate owner s args = at_leaves when.After owner s (first args)
   life_leaves life.OnDestroy owner s args = at_leaves when.Destroy owner s (first args)
-  life_leaves life.SetContext owner s args = keyed_leaves (key_of (first args)) s (λ k. record { held = λ w h. stays.left w.states (λ u. record u { contexts = record { key = k; value = second args } ∷ u.contexts }) owner h })
+  life_leaves life.SetContext owner s args = keyed_leaves (key_of (first args)) s (λ k. record { held = λ w h. stays.left w.modules w.states (λ u. record u { contexts = record { key = k; value = second args } ∷ u.contexts }) owner (λ u. refl) h })
   life_leaves life.GetContext owner s args = keyed_leaves (key_of (first args)) s (λ k. record { held = λ w h. h })
   life_leaves life.CreateEventDispatcher owner s args = ends_leaves undefined
 

@@ -2,3 +2,4 @@ pub mod Snapshots
 pub mod Views
 pub mod Settling
 pub mod Computed
+pub mod Constants

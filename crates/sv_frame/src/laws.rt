@@ -9,6 +9,7 @@ ghost use Rattle.sv_code.specs.declared.program.Program.{Program};
 ghost use Rattle.sv_derived.specs.Derived.{next};
 ghost use Rattle.sv_derived.specs.Order.{IsOrdered};
 ghost use Rattle.sv_frame.specs.Computed.{LeavesComputed};
+ghost use Rattle.sv_frame.specs.Constants.{LeavesConstants, LeavesOthers};
 ghost use Rattle.sv_frame.specs.Settling.{computed_in, computed_at};
 ghost use Rattle.sv_frame.specs.Snapshots.{LeavesSnapshots};
 ghost use Rattle.sv_frame.specs.Views.{LeavesViews};
@@ -40,6 +41,16 @@ pub fn scripts_lend_no_views()
     ensures reactive { (p : Program) (n : ℕ) (all : Bool) → LeavesViews (run_reactive p n all) }
     ensures calls { (p : Program) (v : Val) (args : List Val) (s : Span) → LeavesViews (called p v args s) }
     ensures settling { (p : Program) → LeavesViews (settle p) }
+{}
+
+/// Once the script of an instance ended no constant of it gets another value, and none of a module file once module files ran: nothing but the top of
+/// a file gives constants their values, and each its own.
+pub fn scripts_leave_constants()
+    ensures top { (p : Program) (n : ℕ) (props : List (ℕ × Val)) → LeavesOthers n (run_top p n props) }
+    ensures reactive { (p : Program) (n : ℕ) (all : Bool) → LeavesConstants (run_reactive p n all) }
+    ensures calls { (p : Program) (v : Val) (args : List Val) (s : Span) → LeavesConstants (called p v args s) }
+    ensures events { (p : Program) (i : ℕ) (name : List ℕ) (e : Val) → LeavesConstants (teller p (calls p) i name e) }
+    ensures settling { (p : Program) → LeavesConstants (settle p) }
 {}
 
 /// Derived stores settle to the end: where nothing faults, none is pending behind it. A settling computes some one after another and does

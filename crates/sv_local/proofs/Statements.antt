@@ -18,7 +18,7 @@ use Rattle.sv_meaning.specs.Calls.{Caller}
 use Rattle.sv_meaning.specs.Env.{Env, opened}
 use Rattle.sv_meaning.specs.Outcome.{Done, Meaning, Flow, Next, Returned, and_then}
 use Rattle.sv_meaning.specs.Sight.{Ground}
-use Rattle.sv_meaning.specs.Statements.{value_or, declare, in_order, loop, scoped, each_step, for_step, Doing, Counts, done, Arm, first_of, valued, decl_of, stmt_kind_step, stmt_step, arm_step, run, doing_of, arm_of}
+use Rattle.sv_meaning.specs.Statements.{value_or, name_given, in_order, loop, scoped, each_step, for_step, Doing, Counts, done, Arm, first_of, valued, decl_of, stmt_kind_step, stmt_step, arm_step, run, doing_of, arm_of}
 use Rattle.sv_meaning.specs.Values.{value}
 use Rattle.sv_value.specs.Value.{Val}
 use Rattle.sv_view.specs.Level.{View}
@@ -52,7 +52,7 @@ module _ (p : Program) (arrows : Arrows) (own : Bool) (v v' : View) (constants :
   valued_same o h = option_same (value g call owner) (value g' call owner) (of_code fs) Q value_same o h
 
   decl_same : (d : CodeDecl) → Each Q (of_decl fs d) → decl_of g call owner d ≡ decl_of g' call owner d
-  decl_same d h = ap (λ o env w. and_then (value_or o env w) (declare owner d)) (valued_same d.first h)
+  decl_same d h = ap (λ o env w. and_then (value_or o env w) (λ v env'. Done Next (name_given d.target v env'))) (valued_same d.first h)
 
   decls_same : (ds : List CodeDecl) → Each Q (of_decls fs ds) → map (decl_of g call owner) ds ≡ map (decl_of g' call owner) ds
   decls_same ds h = map_same (decl_of g call owner) (decl_of g' call owner) (of_decl fs) Q decl_same ds h

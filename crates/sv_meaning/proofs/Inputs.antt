@@ -4,14 +4,10 @@ use Rattle.std.specs.Option.{option_and_then}
 use Rattle.std.proofs.lemmas.Bool.{true≢false}
 use Rattle.std.proofs.lemmas.List.Elements.{All-nil, All-cons, All-append}
 use Rattle.std.proofs.lemmas.Option.{slice_get_within}
-use Rattle.sv_base.specs.declared.span.Span.{Span}
-use Rattle.sv_code.specs.declared.program.Program.{Program}
-use Rattle.sv_derived.specs.Derived.{Recipe}
 use Rattle.sv_derived.specs.Order.{AreBelow}
 use Rattle.sv_store.specs.Stores.{Store, value_at}
-use Rattle.sv_value.specs.Value.{Val, undefined, null, boolean, number, text, list, object, function, store, items}
-use Rattle.sv_meaning.specs.Calls.{first, recipe_in}
-use Rattle.sv_meaning.specs.Settling.{Inputs, input_in, inputs_after, inputs_in}
+use Rattle.sv_value.specs.Value.{Val, undefined, null, boolean, number, text, list, object, function, store}
+use Rattle.sv_meaning.specs.Settling.{input_in, inputs_after}
 
 abbrev unwrapped : {A : Type 0} → A → Option A → A
 unwrapped y None = y

@@ -1,5 +1,5 @@
 -- The entry of a name that a scan from the end finds.
-use Rattle.std.proofs.Common.{◌≡◌, ℕ, zero, suc, ◌+◌, ◌<◌, List, [], ◌∷◌, ◌++◌, drop-cons, append_assoc, slice_get, map, length, Option, option_map, Some, None, refl, sym, ap, ◌∙◌, arith, get_or, drop, Bool, true, false, nat_eq}
+use Rattle.std.proofs.Common.{◌≡◌, ℕ, zero, suc, ◌<◌, List, [], ◌∷◌, ◌++◌, drop-cons, append_assoc, slice_get, map, length, Option, option_map, Some, None, refl, sym, ap, ◌∙◌, arith, get_or, drop, true, false, nat_eq}
 use Rattle.sv_value.specs.Value.{Val, undefined}
 use Rattle.sv_value.specs.View.{view_of}
 use Rattle.sv_ops.specs.Members.{or_undefined}

@@ -1,11 +1,11 @@
 -- Calls: of functions, and of the methods of lists, texts, stores, `Math` and `console`.
-use Rattle.std.specs.Prelude.{ℕ, suc, ◌+◌, Bool, true, false, List, [], ◌∷◌, ◌++◌, length, Option, Some, None, option_map, if◌then◌else◌}
+use Rattle.std.specs.Prelude.{ℕ, suc, Bool, true, false, List, [], ◌∷◌, ◌++◌, length, Option, Some, None, option_map, if◌then◌else◌}
 use Rattle.sv_base.specs.declared.span.Span.{Span}
 use Rattle.sv_code.specs.declared.known.Method.{Method}
 use Rattle.sv_code.specs.declared.known.Method.TheVariants as method
 use Rattle.sv_code.specs.declared.program.Program.{Program}
-use Rattle.sv_value.specs.Value.{Val, Vals, undefined, null, boolean, number, text, list, object, function, store, items}
-use Rattle.sv_ops.specs.Answer.{Answer, Refuses, gives}
+use Rattle.sv_value.specs.Value.{Val, Vals, undefined, function, store}
+use Rattle.sv_ops.specs.Answer.{Answer}
 use Rattle.sv_ops.specs.Lists as lists
 use Rattle.sv_ops.specs.Math as math
 use Rattle.sv_ops.specs.Texts as texts
@@ -18,8 +18,7 @@ use Rattle.sv_states.specs.Change.{with_store, with_derived}
 use Rattle.sv_states.specs.Refusal.{store_refusal}
 use Rattle.sv_store.specs.Stores.{Store, value_at}
 use Rattle.sv_world.specs.Turn.{logged}
-use Rattle.sv_world.specs.declared.world.World.{World}
-use Rattle.sv_meaning.specs.Outcome.{Ending, Ends, Fails, Deed, then_do, given, spent, answered}
+use Rattle.sv_meaning.specs.Outcome.{Ends, Fails, Deed, then_do, given, spent, answered}
 use Rattle.sv_meaning.specs.Refused.{unless}
 use Rattle.sv_meaning.specs.Settling.{settled, inputs_in, recipe}
 use Rattle.sv_meaning.specs.Sources.{source_of}

@@ -1,6 +1,5 @@
 -- What is made ready for the computation of a derived store, as definitions see it.
-use Rattle.std.specs.Prelude.{◌≡◌, ◌<◌, ℕ, List, length, Option, Some, Result, Ok, Err}
-use Rattle.sv_base.specs.declared.span.Span.{Span}
+use Rattle.std.specs.Prelude.{◌≡◌, ℕ, List}
 use Rattle.sv_derived.specs.Derived.{Recipe}
 use Rattle.sv_ops.specs.Answers.{Answers}
 use Rattle.sv_store.specs.Stores.{Store}

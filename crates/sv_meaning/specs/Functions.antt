@@ -7,10 +7,9 @@ use Rattle.sv_code.specs.declared.functions.FunctionBody.TheVariants as body
 use Rattle.sv_ops.specs.Answer.{object_made}
 use Rattle.sv_ops.specs.declared.faults.FaultKind.TheVariants.{NotText, Dead, CallDepth}
 use Rattle.sv_value.specs.Value.{Val, Vals, undefined, null, boolean, text, items}
-use Rattle.sv_world.specs.declared.world.World.{World}
 use Rattle.sv_meaning.specs.Calls.{Caller, first, second, make_store}
 use Rattle.sv_meaning.specs.Env.{Env, bound, opened, params, numbers}
-use Rattle.sv_meaning.specs.Outcome.{Ending, Ends, Fails, Deed, Flow, Next, Broken, Continued, Returned, then_do, left, answered}
+use Rattle.sv_meaning.specs.Outcome.{Ends, Fails, Deed, Flow, Returned, then_do, left, answered}
 use Rattle.sv_meaning.specs.Settling.{Derives}
 use Rattle.sv_meaning.specs.Sight.{Ground, ground_in, is_there}
 use Rattle.sv_meaning.specs.Values.{value}

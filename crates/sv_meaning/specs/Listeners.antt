@@ -1,11 +1,10 @@
 -- The listeners of tags (Svelte 4 docs, 'on:eventname' on components): an event that a component dispatches is heard by those of its own tag,
 -- in the order of the text; one without an expression passes it on to the tag of the component in whose markup it stands.
-use Rattle.std.specs.Prelude.{ℕ, zero, suc, Bool, true, false, List, [], ◌∷◌, Option, Some, None, Result, Ok, Err, option_map, option_and_then, slice_get}
+use Rattle.std.specs.Prelude.{ℕ, zero, suc, Bool, true, false, List, [], ◌∷◌, Option, Some, None, Result, Ok, Err, option_map, slice_get}
 use Rattle.std.specs.Str.{bytes_eq}
 use Rattle.sv_base.specs.declared.span.Span.{Span}
 use Rattle.sv_code.specs.declared.fragments.FragAttr.{FragAttr}
 use Rattle.sv_code.specs.declared.fragments.FragAttr.TheVariants as attr
-use Rattle.sv_code.specs.declared.functions.Function.{Function}
 use Rattle.sv_code.specs.declared.parts.Part.{Part}
 use Rattle.sv_code.specs.declared.program.Program.{Program}
 use Rattle.sv_code.specs.declared.tags.Handler.{Handler}
@@ -16,15 +15,15 @@ use Rattle.sv_ops.specs.declared.faults.Fault.{Fault}
 use Rattle.sv_ops.specs.declared.faults.FaultKind.TheVariants.{NotAFunction}
 use Rattle.sv_states.specs.States.{live}
 use Rattle.sv_states.specs.declared.states.TheConstants.{DEPTH_LIMIT}
-use Rattle.sv_value.specs.Value.{Val, Vals, undefined, null, function}
+use Rattle.sv_value.specs.Value.{Val, undefined, null, function}
 use Rattle.sv_view.specs.Level.{View}
 use Rattle.sv_view.specs.Local.{Local}
 use Rattle.sv_view.specs.View.{with_locals}
 use Rattle.sv_world.specs.World.{presented}
 use Rattle.sv_world.specs.declared.world.World.{World}
-use Rattle.sv_meaning.specs.Calls.{Caller, call_value}
+use Rattle.sv_meaning.specs.Calls.{Caller}
 use Rattle.sv_meaning.specs.Functions.{Teller}
-use Rattle.sv_meaning.specs.Outcome.{Ending, Ends, Fails, Deed, then_do}
+use Rattle.sv_meaning.specs.Outcome.{Ends, Fails, Deed, then_do}
 use Rattle.sv_meaning.specs.Parts.{part_value}
 use Rattle.sv_meaning.specs.Sources.{source}
 

@@ -1,5 +1,5 @@
 -- What scripts do: those of module files, those of components as they are made, reactive statements, and the functions that the page calls.
-use Rattle.std.specs.Prelude.{ℕ, nat_eq, Bool, true, false, ◌||◌, List, [], ◌∷◌, map, Option, Some, None, option_map, slice_get, if◌then◌else◌}
+use Rattle.std.specs.Prelude.{ℕ, nat_eq, Bool, true, false, ◌||◌, List, [], ◌∷◌, map, Option, Some, None, slice_get, if◌then◌else◌}
 use Rattle.std.specs.List.{list_any}
 use Rattle.sv_base.specs.declared.span.Span.{Span}
 use Rattle.sv_code.specs.declared.functions.CodeDecl.{CodeDecl}
@@ -25,7 +25,7 @@ use Rattle.sv_meaning.specs.Calls.{Caller, call_value}
 use Rattle.sv_meaning.specs.Components.{component_of}
 use Rattle.sv_meaning.specs.Derived.{running}
 use Rattle.sv_meaning.specs.Functions.{caller}
-use Rattle.sv_meaning.specs.Outcome.{Ending, Ends, Fails, Deed, Meaning, Flow, Next, Outcome, Done, and_then, then_do, left, given, counted}
+use Rattle.sv_meaning.specs.Outcome.{Ending, Ends, Fails, Deed, Meaning, Flow, Next, Done, and_then, then_do, doing, left, given, counted}
 use Rattle.sv_meaning.specs.Settling.{settled}
 use Rattle.sv_meaning.specs.Sight.{Ground}
 use Rattle.sv_meaning.specs.Sources.{source_of}
@@ -60,6 +60,13 @@ abbrev pub functions_set : ℕ → List CodeStmt → World → World
 functions_set owner [] w = w
 functions_set owner (s ∷ stmts) w = functions_set owner stmts (function_set owner s.span (out-CodeStmtKind s.kind) w)
 
+-- what a statement at the top of a file declares, where it declares names
+abbrev pub declarations : CodeStmtKind-F CodeStmtKind CodeArm CodeStmt → Option (List CodeDecl)
+declarations (CodeStmtKind-F.Let ds) = Some ds
+declarations (CodeStmtKind-F.Const ds exported) = Some ds
+declarations (CodeStmtKind-F.Export ds) = Some ds
+declarations _ = None
+
 -- what was given for a prop
 abbrev pub prop_given : List (ℕ × Val) → ℕ → Val
 prop_given [] cell = undefined
@@ -75,16 +82,17 @@ prop_value undefined first = first
 prop_value v first = Done v
 
 module _ (p : Program) (owner : ℕ) (props : List (ℕ × Val)) where
-  abbrev pub prop_declared : CodeDecl → Meaning Flow
-  prop_declared d env w = and_then (prop_value (given_for props d.target) (value_or (valued (world_ground p) (calls p) owner d.first)) env w) (declare owner d)
+  -- a name that is declared at the top has what was given for it as a prop, or its first value
+  abbrev pub top_declared : CodeDecl → Meaning Flow
+  top_declared d env w = and_then (prop_value (given_for props d.target) (value_or (valued (world_ground p) (calls p) owner d.first)) env w) (λ v. doing (λ w'. then_do (declare owner d v w') (λ u. Ends Next)))
 
-  abbrev pub top_kind : CodeStmtKind-F CodeStmtKind CodeArm CodeStmt → CodeStmt → Meaning Flow
-  top_kind (CodeStmtKind-F.Export ds) s = counted s.span (in_order (map prop_declared ds))
-  top_kind _ s = run (world_ground p) (calls p) owner s
+  abbrev pub top_or : Option (List CodeDecl) → CodeStmt → Meaning Flow
+  top_or (Some ds) s = counted s.span (in_order (map top_declared ds))
+  top_or None s = run (world_ground p) (calls p) owner s
 
-  -- a statement at the top of a component's script
+  -- a statement at the top of a file
   abbrev pub top : CodeStmt → Meaning Flow
-  top s = top_kind (out-CodeStmtKind s.kind) s
+  top s = top_or (declarations (out-CodeStmtKind s.kind)) s
 
   -- the script of a component, but for its reactive statements
   abbrev pub script : List CodeStmt → Deed (Unit {0})

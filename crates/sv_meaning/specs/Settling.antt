@@ -5,8 +5,7 @@ use Rattle.sv_derived.specs.Derived.{Recipe, Derived, found, next}
 use Rattle.sv_states.specs.Assignment.{computed}
 use Rattle.sv_store.specs.Stores.{Store, value_at}
 use Rattle.sv_value.specs.Value.{Val, list, store, items}
-use Rattle.sv_world.specs.declared.world.World.{World}
-use Rattle.sv_meaning.specs.Outcome.{Ending, Ends, Deed, then_do}
+use Rattle.sv_meaning.specs.Outcome.{Ends, Deed, then_do}
 
 -- the value of a derived store of an owner, by its recipe
 abbrev pub Derives : Type 0

@@ -9,7 +9,7 @@ use Rattle.sv_code.specs.declared.parts.Arrows.{Arrows}
 use Rattle.sv_code.specs.declared.program.Program.{Program}
 use Rattle.sv_code.specs.Within.{is_among}
 use Rattle.sv_ops.specs.Answer.{function_made}
-use Rattle.sv_ops.specs.declared.faults.FaultKind.TheVariants.{NoMember, UseBeforeInit}
+use Rattle.sv_ops.specs.declared.faults.FaultKind.TheVariants.{UseBeforeInit}
 use Rattle.sv_states.specs.States.{live, cell_in}
 use Rattle.sv_states.specs.Assignment as states
 use Rattle.sv_states.specs.Refusal.{assign_refusal}
@@ -21,8 +21,8 @@ use Rattle.sv_view.specs.declared.view.At.TheVariants as at
 use Rattle.sv_world.specs.Setup.{constant_in}
 use Rattle.sv_world.specs.declared.world.World.{World}
 use Rattle.sv_meaning.specs.Calls.{Caller}
-use Rattle.sv_meaning.specs.Env.{Env, look, given_value}
-use Rattle.sv_meaning.specs.Outcome.{Ending, Ends, Fails, Deed, Outcome, Done, Failed, Meaning, and_then, then_do, kept, doing, given, answered}
+use Rattle.sv_meaning.specs.Env.{look, given_value}
+use Rattle.sv_meaning.specs.Outcome.{Ends, Deed, Done, Failed, Meaning, and_then, then_do, kept, doing, given, answered}
 use Rattle.sv_meaning.specs.Refused.{unless}
 use Rattle.sv_meaning.specs.Settling.{settled}
 

@@ -14,13 +14,13 @@ use Rattle.sv_ops.specs.declared.faults.FaultKind.TheVariants.{NotAList, NotASto
 use Rattle.sv_states.specs.Moving.{may_hold}
 use Rattle.sv_states.specs.Change.{declared, subscribed_to}
 use Rattle.sv_value.specs.Change.{truthy}
-use Rattle.sv_value.specs.Value.{Val, undefined, null, boolean, number, text, list, object, function, store, items}
+use Rattle.sv_value.specs.Value.{Val, undefined, list, store, items}
 use Rattle.sv_view.specs.Constants.{with_module_constant}
 use Rattle.sv_world.specs.Setup.{set_up}
 use Rattle.sv_world.specs.declared.world.World.{World}
 use Rattle.sv_meaning.specs.Calls.{Caller}
 use Rattle.sv_meaning.specs.Env.{Env, given_value, opened}
-use Rattle.sv_meaning.specs.Outcome.{Ending, Ends, Fails, Outcome, Done, Failed, Meaning, Deed, Flow, Next, Broken, Continued, Returned, and_then, kept, doing, either, counted}
+use Rattle.sv_meaning.specs.Outcome.{Ends, Fails, Done, Failed, Meaning, Deed, Flow, Next, Broken, Continued, Returned, and_then, either, counted}
 use Rattle.sv_meaning.specs.Sight.{Ground}
 use Rattle.sv_meaning.specs.Values.{value}
 
@@ -36,12 +36,16 @@ abbrev pub constant_set : ℕ → ℕ → ℕ → Val → World → World
 constant_set owner file n v w =
     if nat_eq owner 0 then record w { modules = with_module_constant w.modules file n v } else set_up (λ u. record u { constants = slice_set u.constants n (Some v) }) w owner
 
--- a declared name gets its first value
-abbrev pub initialized : ℕ → Known → Span → Val → Meaning Val
-initialized owner (known.Local x) s v env w = Done v (given_value x.0 v env) w
-initialized owner (known.Cell n) s v env w = Done v env (record w { states = declared w.states (record { inst = owner; cell = n }) v })
-initialized owner (known.Constant n) s v env w = Done v env (constant_set owner s.file n v w)
-initialized owner _ s v env w = Done v env w
+-- a variable or a constant at the top of a file gets its first value
+abbrev pub initialized : ℕ → Known → Span → Val → World → World
+initialized owner (known.Cell n) s v w = record w { states = declared w.states (record { inst = owner; cell = n }) v }
+initialized owner (known.Constant n) s v w = constant_set owner s.file n v w
+initialized owner _ s v w = w
+
+-- a name that is declared in a block or a function gets its first value
+abbrev pub name_given : Known → Val → Env → Env
+name_given (known.Local x) v env = given_value x.0 v env
+name_given _ v env = env
 
 -- the cell of a variable
 abbrev pub variable : Known → Option ℕ
@@ -63,9 +67,9 @@ abbrev pub subscribe_if : Option ℕ → ℕ → Option ℕ → Span → Val →
 subscribe_if None owner source s v w = Ends tt w
 subscribe_if (Some cell) owner source s v w = subscribe owner cell source s v w
 
--- a declaration with the value that its name gets
-abbrev pub declare : ℕ → CodeDecl → Val → Meaning Flow
-declare owner d v env w = and_then (initialized owner d.target d.name.span v env w) (λ u env' w'. and_then (kept env' (subscribe_if d.store owner (variable d.target) d.name.span u w')) (λ t. Done Next))
+-- a declaration at the top of a file, with the value that its name gets
+abbrev pub declare : ℕ → CodeDecl → Val → Deed (Unit {0})
+declare owner d v w = subscribe_if d.store owner (variable d.target) d.name.span v (initialized owner d.target d.name.span v w)
 
 abbrev pub go_on : Flow → Meaning Flow → Meaning Flow
 go_on Next m = m
@@ -162,8 +166,9 @@ module _ (g : Ground) (call : Caller) (owner : ℕ) where
   abbrev pub valued : Option Code → Option (Meaning Val)
   valued e = option_map (value g call owner) e
 
+  -- a declaration in a block or a function
   abbrev pub decl_of : CodeDecl → Meaning Flow
-  decl_of d env w = and_then (value_or (valued d.first) env w) (declare owner d)
+  decl_of d env w = and_then (value_or (valued d.first) env w) (λ v env'. Done Next (name_given d.target v env'))
 
   abbrev pub stmt_kind_step : CodeStmtKind-F Doing Arm (Meaning Flow) → Doing
   stmt_kind_step CodeStmtKind-F.Empty = Counts (λ s. Done Next)

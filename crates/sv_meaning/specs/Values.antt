@@ -36,14 +36,13 @@ use Rattle.sv_states.specs.States.{is_derived}
 use Rattle.sv_value.specs.Change.{truthy}
 use Rattle.sv_value.specs.Key.{key_of}
 use Rattle.sv_value.specs.Object.{get}
-use Rattle.sv_value.specs.Value.{Val, Vals, Fields, undefined, null, boolean, number, text, list, object, function, store, items}
+use Rattle.sv_value.specs.Value.{Val, undefined, null, boolean, number, text, list, object, store, items}
 use Rattle.sv_value.specs.Words.{text_of}
 use Rattle.sv_value.specs.declared.key.Key.{Key}
 use Rattle.sv_world.specs.Setup.{set_up}
-use Rattle.sv_world.specs.declared.world.World.{World}
 use Rattle.sv_meaning.specs.Calls.{Caller, call_value, first, second, is_function, is_on_list, is_on_text, is_on_store, is_of_math, on_list, on_text, on_store, of_math, log, make_store, make_derived}
 use Rattle.sv_meaning.specs.Env.{Env, look}
-use Rattle.sv_meaning.specs.Outcome.{Ending, Ends, Fails, Outcome, Done, Failed, Meaning, Deed, and_then, kept, doing, given, either, counted, spent, answered}
+use Rattle.sv_meaning.specs.Outcome.{Ends, Fails, Done, Failed, Meaning, Deed, and_then, kept, doing, given, either, counted, spent, answered}
 use Rattle.sv_meaning.specs.Sight.{Ground, read, set}
 
 -- ---- what is made of the parts of an expression

@@ -5,9 +5,8 @@ ghost use Rattle.sv_ops.specs.Answer.{object_made};
 ghost use Rattle.sv_ops.specs.Answers.{Answers};
 ghost use Rattle.sv_meaning.specs.Env.{Env};
 ghost use Rattle.sv_meaning.specs.Functions.{env_of, returned, event_fields};
-ghost use Rattle.sv_meaning.specs.Gives.{Gives, EndsAs};
-ghost use Rattle.sv_meaning.specs.Outcome.{Next, Done};
-ghost use Rattle.sv_meaning.specs.Statements.{declare, initialized, constant_set, variable, may_show, subscribe, subscribe_if};
+ghost use Rattle.sv_meaning.specs.Gives.{EndsAs};
+ghost use Rattle.sv_meaning.specs.Statements.{declare, initialized, name_given, constant_set, variable, may_show, subscribe, subscribe_if};
 ghost use Rattle.sv_meaning.specs.Gives.{flow_of};
 
 use crate::counting::fault;
@@ -30,21 +29,29 @@ pub enum End {
     Returned(Value),
 }
 
-/// A declared name gets its first value, and where its `$` name is written the cell of that is subscribed: `NotAStore` exactly where the
-/// value is none then.
+/// A name that is declared in a block or a function gets its first value.
+pub fn give_name(locals: &mut Locals, target: Known, value: Value)
+    ensures { locals.new ≡ name_given target (view_of value) locals.old }
+{
+    match target {
+        Known::Local(name) => locals.give(name, value),
+        _ => drop(value),
+    }
+}
+
+/// A name that is declared at the top of a file gets its first value, and where its `$` name is written the cell of that is subscribed:
+/// `NotAStore` exactly where the value is none then.
 pub fn declare(
     world: &mut World,
-    locals: &mut Locals,
     owner: Inst,
     decl: &CodeDecl,
     value: Value,
 ) -> Result<(), EvalError>
-    ensures means { Gives (λ _. Next) result locals.new world.new (declare owner.number decl.now (view_of value) locals.old world.old) }
-    ensures fewer { world.new.turn.steps ≤ world.old.turn.steps }
+    ensures { EndsAs (λ u. u) result world.new (declare owner.number decl.now (view_of value) world.old) }
 {
     let span = decl.name.span;
     let held = value.share()?;
-    initialize(world, locals, owner, decl, value)?;
+    initialize(world, owner, decl, value)?;
     match decl.store {
         Some(cell) => subscribe(
             world,
@@ -57,21 +64,10 @@ pub fn declare(
     }
 }
 
-fn initialize(
-    world: &mut World,
-    locals: &mut Locals,
-    owner: Inst,
-    decl: &CodeDecl,
-    value: Value,
-) -> Result<(), NoMemory>
-    ensures means { OnOk result (initialized owner.number decl.now.target decl.now.name.span (view_of value) locals.old world.old ≡ Done (view_of value) locals.new world.new) }
-    ensures fewer { world.new.turn.steps ≤ world.old.turn.steps }
+fn initialize(world: &mut World, owner: Inst, decl: &CodeDecl, value: Value) -> Result<(), NoMemory>
+    ensures { OnOk result (world.new ≡ initialized owner.number decl.now.target decl.now.name.span (view_of value) world.old) }
 {
     match decl.target {
-        Known::Local(name) => {
-            locals.give(name, value);
-            Ok(())
-        }
         Known::Cell(cell) => {
             world.states.declare(Sub { inst: owner, cell }, value);
             Ok(())

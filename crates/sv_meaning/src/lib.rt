@@ -20,7 +20,9 @@ pub use calls::{
 pub use components::{component_at, component_of, markup_of, variable_of};
 pub use context::{Context, script_context};
 pub use counting::{answer, assigned, count, fault, spend};
-pub use declarations::{End, declare, event_of, open_body, returned, set_constant, subscribe};
+pub use declarations::{
+    End, declare, event_of, give_name, open_body, returned, set_constant, subscribe,
+};
 pub use errors::EvalError;
 pub use limits::{CALL_LIMIT, PART_STEP_LIMIT};
 pub use listening::{Hearer, attrs_of, hearer_of, listener_view, part_world, source_of};

@@ -1,11 +1,11 @@
 // The statements at the top of a file.
-ghost use Rattle.std.specs.Prelude.{◌≡◌, false, ◌≤◌, [], map, IfOk, OnOk};
+ghost use Rattle.std.specs.Prelude.{◌≡◌, false, ◌≤◌, [], map, option_copied, IfOk, OnOk};
 ghost use Rattle.sv_code.specs.declared.functions.CodeStmtKind.{out-CodeStmtKind};
 ghost use Rattle.sv_value.specs.Value.{function, none};
 ghost use Rattle.sv_value.specs.View.{view_of};
 ghost use Rattle.sv_meaning.specs.Gives.{Gives, EndsAs, flow_of};
 ghost use Rattle.sv_meaning.specs.Outcome.{Next};
-ghost use Rattle.sv_meaning.specs.Runs.{function_set, functions_set, given_for, prop_given, prop_value, prop_declared, top, script, world_ground, calls};
+ghost use Rattle.sv_meaning.specs.Runs.{function_set, functions_set, declarations, given_for, prop_given, prop_value, top_declared, top, script, world_ground, calls};
 ghost use Rattle.sv_meaning.specs.Statements.{in_order, value_or, valued};
 ghost use Rattle.sv_scripts.specs.Props.{given_as};
 
@@ -98,40 +98,38 @@ impl Script<'_> {
     ) -> Result<End, EvalError>
         ensures { Gives flow_of result locals.new world.new (top self.now.program.now self.now.owner.number (map given_as self.now.props.now) stmt.now locals.old world.old) }
     {
-        match stmt.kind.get() {
-            CodeStmtKind::Export(decls) => {
-                count(world, stmt.span)?;
-                self.declare_props(world, locals, decls.as_slice())
-            }
-            _ => run(&self.context(), world, locals, stmt),
-        }
+        let Some(decls) = declarations(stmt.kind.get()) else {
+            return run(&self.context(), world, locals, stmt);
+        };
+        count(world, stmt.span)?;
+        self.declare_all(world, locals, decls)
     }
 
-    fn declare_props(
+    fn declare_all(
         &self,
         world: &mut World,
         locals: &mut Locals,
         decls: &[CodeDecl],
     ) -> Result<End, EvalError>
-        ensures { Gives flow_of result locals.new world.new (in_order (map (prop_declared self.now.program.now self.now.owner.number (map given_as self.now.props.now)) decls.now) locals.old world.old) }
+        ensures { Gives flow_of result locals.new world.new (in_order (map (top_declared self.now.program.now self.now.owner.number (map given_as self.now.props.now)) decls.now) locals.old world.old) }
     {
         for decl in decls {
-            self.declare_prop(world, locals, decl)?;
+            self.declare_one(world, locals, decl)?;
         }
         Ok(End::Next)
     }
 
-    fn declare_prop(
+    fn declare_one(
         &self,
         world: &mut World,
         locals: &mut Locals,
         decl: &CodeDecl,
     ) -> Result<(), EvalError>
-        ensures { Gives (λ _. Next) result locals.new world.new (prop_declared self.now.program.now self.now.owner.number (map given_as self.now.props.now) decl.now locals.old world.old) }
+        ensures { Gives (λ _. Next) result locals.new world.new (top_declared self.now.program.now self.now.owner.number (map given_as self.now.props.now) decl.now locals.old world.old) }
     {
         let given = self.given_for(decl.target)?;
         let value = self.value_or_first(world, locals, given, decl)?;
-        declare(world, locals, self.owner, decl, value)
+        declare(world, self.owner, decl, value)
     }
 
     // A prop has what was given, or its first value where that is undefined.
@@ -158,6 +156,18 @@ impl Script<'_> {
             Known::Cell(cell) => given_in(self.props, cell),
             _ => Ok(Value::Undefined),
         }
+    }
+}
+
+// What a statement at the top of a file declares; `None` exactly where it declares nothing.
+fn declarations(kind: &CodeStmtKind) -> Option<&[CodeDecl]>
+    ensures { option_copied result ≡ declarations (out-CodeStmtKind kind.now) }
+{
+    match kind {
+        CodeStmtKind::Let(decls)
+        | CodeStmtKind::Export(decls)
+        | CodeStmtKind::Const { decls, .. } => Some(decls.as_slice()),
+        _ => None,
     }
 }
 

@@ -1,4 +1,4 @@
-use Rattle.std.proofs.Common.{◌≡◌, ◌<◌, ◌∙◌, [], map, length}
+use Rattle.std.proofs.Common.{◌<◌, ◌∙◌, [], map, length}
 use Rattle.std.proofs.lemmas.List.{at_drop_all}
 use Rattle.std.proofs.lemmas.List.Elements.{All-nil}
 use Rattle.sv_value.specs.View.{view_of}

@@ -1,4 +1,4 @@
-use Rattle.std.proofs.Common.{◌≡◌, [], map, drop, take}
+use Rattle.std.proofs.Common.{◌≡◌, drop}
 use Rattle.sv_meaning.specs.Runs.{cells_opened}
 use Rattle.sv_scripts.proofs.components.open_cells.Given as goal
 

@@ -1,4 +1,4 @@
-use Rattle.std.proofs.Common.{◌≡◌, [], map, drop, take}
+use Rattle.std.proofs.Common.{◌≡◌, drop}
 use Rattle.sv_meaning.specs.Runs.{each_in_turn, name_subscribed}
 use Rattle.sv_scripts.proofs.components.subscribe_names.Given as goal
 

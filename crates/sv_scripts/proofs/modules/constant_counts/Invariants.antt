@@ -1,4 +1,4 @@
-use Rattle.std.proofs.Common.{◌≡◌, [], map, drop, take}
+use Rattle.std.proofs.Common.{◌≡◌, map, take}
 use Rattle.sv_meaning.specs.Runs.{constant_count}
 use Rattle.sv_scripts.proofs.modules.constant_counts.Given as goal
 

@@ -1,4 +1,4 @@
-use Rattle.std.proofs.Common.{◌≡◌, [], map, drop, take}
+use Rattle.std.proofs.Common.{◌≡◌, drop}
 use Rattle.std.specs.Prelude.{slice_get}
 use Rattle.sv_meaning.specs.Runs.{each_in_turn, run_module}
 use Rattle.sv_scripts.proofs.modules.run_each.Given as goal

@@ -1,4 +1,4 @@
-use Rattle.std.proofs.Common.{◌≡◌, [], map, drop, take}
+use Rattle.std.proofs.Common.{◌≡◌, drop}
 use Rattle.sv_meaning.specs.Runs.{each_in_turn, run_due}
 use Rattle.sv_scripts.proofs.reactive.run_each.Given as goal
 

@@ -1,4 +1,4 @@
-use Rattle.std.proofs.Common.{◌≡◌, [], map, drop, take}
+use Rattle.std.proofs.Common.{◌≡◌, map, drop}
 use Rattle.sv_meaning.specs.Runs.{prop_given}
 use Rattle.sv_scripts.specs.Props.{given_as}
 use Rattle.sv_scripts.proofs.script.given_in.Given as goal

@@ -1,6 +1,4 @@
-use Rattle.std.proofs.Common.{◌≡◌, ◌++◌, ◌∷◌, [], refl, ap, sym, ◌∙◌, arith, add-one, append_assoc, drop, map, Some, suc}
-use Rattle.sv_value.specs.View.{view_of}
-use Rattle.sv_meaning.specs.Env.{bound, numbers}
+use Rattle.std.proofs.Common.{◌∙◌, arith, add-one}
 use Rattle.sv_meaning.proofs.Names.{bound_next, bound_pushed}
 use Rattle.sv_meaning.proofs.locals.Locals.bind.Goals as goal
 

@@ -1,4 +1,4 @@
-use Rattle.std.proofs.Common.{◌≡◌, [], map, drop, take}
+use Rattle.std.proofs.Common.{◌≡◌, map, drop}
 use Rattle.sv_meaning.specs.Runs.{top}
 use Rattle.sv_meaning.specs.Statements.{in_order}
 use Rattle.sv_scripts.specs.Props.{given_as}

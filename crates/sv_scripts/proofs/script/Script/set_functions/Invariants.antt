@@ -1,4 +1,4 @@
-use Rattle.std.proofs.Common.{◌≡◌, [], map, drop, take}
+use Rattle.std.proofs.Common.{◌≡◌, drop}
 use Rattle.sv_meaning.specs.Runs.{functions_set}
 use Rattle.sv_scripts.proofs.script.Script.set_functions.Given as goal
 

@@ -1,4 +1,4 @@
-use Rattle.std.proofs.Common.{◌≡◌, ap, sym, ◌∙◌, subst}
+use Rattle.std.proofs.Common.{sym, subst}
 use Rattle.sv_meaning.specs.Gives.{Gives}
 use Rattle.sv_meaning.specs.Runs.{prop_value, world_ground, calls}
 use Rattle.sv_meaning.specs.Statements.{value_or, valued}
