@@ -54,7 +54,7 @@ module _ (m : Page) (sound : IsSound m.world.states) (past : HoldsPast m) (n : �
       (λ p. ⊎_elim (λ q. same_back b a (held_present b a q p)) (λ q. presents a b p q) k)
       h
 
-count_is : (o : Option Cell) → count_of o ≡ unwrap_or (option_map (λ (cell : Cell). cell.count) o) 0
+pub count_is : (o : Option Cell) → count_of o ≡ unwrap_or (option_map (λ (cell : Cell). cell.count) o) 0
 count_is None = refl
 count_is (Some c) = refl
 

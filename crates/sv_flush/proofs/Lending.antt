@@ -8,10 +8,10 @@ use Rattle.std.proofs.lemmas.Option.{none-some, same_Some}
 use Rattle.sv_code.specs.declared.program.Program.{Program}
 use Rattle.sv_flush.proofs.Agreeing.{agree-fewer, agree-more, agree-set, agree-added}
 use Rattle.sv_flush.proofs.Holding.{lent-set, lent-added, shown-left, shown-put}
-use Rattle.sv_flush.proofs.Lasting.{IsOf, Lasting}
+use Rattle.sv_flush.proofs.Lasting.{Loading, Idle, Fresh, Busy, Snapped, IsOf, About, Lasting, while_running}
 use Rattle.sv_flush.proofs.Past.{past_shown, same_now, present_past}
 use Rattle.sv_flush.proofs.Standing.{stands-back, stands-parts}
-use Rattle.sv_flush.proofs.Tracking.{GoesBy, goes_stays, goes-bound, goes-handed, picture_at, seen-snapped}
+use Rattle.sv_flush.proofs.Tracking.{GoesBy, goes_stays, goes-loaded, goes-opened, goes-bound, goes-handed, picture_at, seen-snapped}
 use Rattle.sv_flush.specs.Lent.{StandsIn, IsShownOn, IsLent, StandsHeld, IsHeld, ArePast, LevelsAgree, HoldsPast}
 use Rattle.sv_flush.specs.declared.page.Page.{Page}
 use Rattle.sv_frame.proofs.Altering.{pictures-altered, pictures-viewed, plain_view, view_of, snapshots-viewed}
@@ -203,19 +203,28 @@ lends-fewer more due shown s h = record {
 
 -- ---- whatever a flush does
 
-pub lends_last : (p : Program) → Lasting p (λ but due. Lends due) Shot
+abbrev pub LendsWhile : About
+LendsWhile Loading due shown ms = Lends due shown
+LendsWhile Idle due shown ms = Lends due shown
+LendsWhile (Fresh n) due shown ms = Lends due shown
+LendsWhile (Busy n) due shown ms = Lends due shown
+LendsWhile (Snapped n) due shown ms = Shot n due shown
+
+pub lends_last : (p : Program) → Lasting p LendsWhile
 lends_last p = record {
-  scripts = λ but due shown. lends_stay due shown p;
+  scripts = while_running _ (λ due shown. lends_stay due shown p) (λ n due shown. lends_stay due shown p) (λ n due shown. lends_stay due shown p);
+  loads = λ due shown w h. goes-loaded (lends_go due shown) p w h;
+  opens = λ n due shown props w h. goes-opened (lends_go due shown) p n props w h;
   binds = λ due shown w n b may h. goes-bound (lends_go due shown) p w n b h;
-  hands = λ but due shown s at v h. goes-handed (lends_go due shown) s at v h;
-  lends = λ but due shown s n c view d h. lends-viewed due shown s n c view d h;
-  spends = lends-fewer;
-  makes = λ due shown s place cells constants h. lends-added due shown s _ (new-born place cells constants) refl h;
-  drops = λ due shown s n h. lends-gone due shown s n h;
-  begins = λ n due shown s h. h;
-  snaps = λ n due shown s h. record { lends = lends-snapped n due shown s h; now = seen-snapped n s };
-  passes = λ n due shown s e h. h.lends;
-  shows = λ n due shown s modules i parts there h. lends-shown n due shown s modules i (record { view = present_view modules n i; parts = parts }) refl there h;
+  hands = while_running _ (λ due shown ms s at v h. goes-handed (lends_go due shown) s at v h) (λ n due shown ms s at v h. goes-handed (lends_go due shown) s at v h) (λ n due shown ms s at v h. goes-handed (lends_go due shown) s at v h);
+  lends = while_running _ (λ due shown ms s n c view is d h. lends-viewed due shown s n c view d h) (λ m due shown ms s n c view is d h. lends-viewed due shown s n c view d h) (λ m due shown ms s n c view is d h. lends-viewed due shown s n c view d h);
+  spends = λ more due shown ms s h. lends-fewer more due shown s h;
+  makes = λ due shown ms s place cells constants h. lends-added due shown s _ (new-born place cells constants) refl h;
+  drops = λ due shown ms s n h. lends-gone due shown s n h;
+  begins = λ n due shown ms s h. h;
+  snaps = λ n due shown ms s h. record { lends = lends-snapped n due shown s h; now = seen-snapped n s };
+  passes = λ n due shown ms s e h. h.lends;
+  shows = λ n due shown ms s i parts there h. lends-shown n due shown s ms i (record { view = present_view ms n i; parts = parts }) refl there h;
 }
 
 -- ---- as pages have it

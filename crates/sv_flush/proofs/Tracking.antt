@@ -7,20 +7,20 @@ use Rattle.std.proofs.Math.ListN.{get_or-map}
 use Rattle.std.proofs.lemmas.List.{map-append, map-set, length-map}
 use Rattle.std.proofs.lemmas.Option.{none-some, same_Some}
 use Rattle.sv_code.specs.declared.program.Program.{Program}
-use Rattle.sv_flush.proofs.Lasting.{Lasting}
+use Rattle.sv_flush.proofs.Lasting.{Loading, Idle, Fresh, Busy, Snapped, About, Lasting, while_running}
 use Rattle.sv_flush.proofs.Recording.{Only, RecordsBut, records-weaker, records-added, records-gone, records-snapped, records-but, records-dead, records-shown}
 use Rattle.sv_flush.specs.Records.{Records, nobody}
 use Rattle.sv_flush.specs.declared.page.Page.{Page}
-use Rattle.sv_frame.proofs.Altering.{pictures, seen_stays, lent_stays, snapshots-viewed, snapshots-bound, snapshots-handed, views-bound, views-handed}
+use Rattle.sv_frame.proofs.Altering.{pictures, seen_setups, seen_stays, lent_setups, lent_stays, snapshots-viewed, snapshots-bound, snapshots-handed, views-bound, views-handed}
 use Rattle.sv_frame.proofs.Outcomes.{at_ends, Left, Stays, ends_stay}
-use Rattle.sv_frame.proofs.Running.{settle_leaves}
-use Rattle.sv_frame.proofs.Stepping.{Steps, steps_stay}
+use Rattle.sv_frame.proofs.Running.{modules_leave, top_leaves, settle_leaves}
+use Rattle.sv_frame.proofs.Stepping.{Setups, Steps, sets_by, steps_stay}
 use Rattle.sv_frame.specs.Snapshots.{snapshot_of, snapshots}
 use Rattle.sv_frame.specs.Views.{lent_views}
 use Rattle.sv_instance.specs.Bound.{Bound}
 use Rattle.sv_instance.specs.Cells.{present}
 use Rattle.sv_instance.specs.declared.instance.Instance.{Instance}
-use Rattle.sv_meaning.specs.Runs.{settle}
+use Rattle.sv_meaning.specs.Runs.{run_modules, run_top, settle}
 use Rattle.sv_numbered.specs.Numbered.{at}
 use Rattle.sv_shapes.specs.declared.shown.Shown.{Shown}
 use Rattle.sv_states.proofs.Altering.{at_within, at-altered_same, at-altered_none, altered-none, altered-some}
@@ -42,9 +42,12 @@ use Rattle.sv_world.specs.declared.world.World.{World}
 
 -- ---- what scripts leave
 
-sound_steps : Steps IsSound
+sound_setups : Setups IsSound
+sound_setups s f n h = sound-inert (λ i. record i { setup = f i.setup }) s n (λ i. refl) (λ i. refl) (λ i. refl) h
+
+pub sound_steps : Steps IsSound
 sound_steps = record {
-  left = λ s f n h. sound-inert (λ i. record i { setup = f i.setup }) s n (λ i. refl) (λ i. refl) (λ i. refl) h;
+  left = λ s f n e h. sound_setups s f n h;
   assigned = λ s n c v h. sound-sent s (way_of s n c v) v h;
   store_set = λ s id v h. sound-sent s (record { cells = []; store = Some id }) v h;
   computed = λ s id v h. sound-computed s id v h;
@@ -60,10 +63,13 @@ pub record GoesBy (P : States → Type 0) : Type 0 where
   pub on : (s t : States) → P s → IsSound t → snapshots t ≡ snapshots s → lent_views t ≡ lent_views s → P t
 
 module _ {P : States → Type 0} (goes : GoesBy P) where
+  goes_setups : Setups P
+  goes_setups s f n h = goes.on s _ h (sound_setups s f n (goes.sound s h)) (seen_setups (snapshots s) s f n refl) (lent_setups (lent_views s) s f n refl)
+
   -- so scripts leave it
   goes_steps : Steps P
   goes_steps = record {
-    left = λ s f n h. goes.on s _ h (sound_steps.left s f n (goes.sound s h)) ((seen_stays (snapshots s)).left s f n refl) ((lent_stays (lent_views s)).left s f n refl);
+    left = λ s f n e h. goes_setups s f n h;
     assigned = λ s n c v h. goes.on s _ h (sound_steps.assigned s n c v (goes.sound s h)) ((seen_stays (snapshots s)).assigned s n c v refl) ((lent_stays (lent_views s)).assigned s n c v refl);
     store_set = λ s id v h. goes.on s _ h (sound_steps.store_set s id v (goes.sound s h)) ((seen_stays (snapshots s)).store_set s id v refl) ((lent_stays (lent_views s)).store_set s id v refl);
     computed = λ s id v h. goes.on s _ h (sound_steps.computed s id v (goes.sound s h)) ((seen_stays (snapshots s)).computed s id v refl) ((lent_stays (lent_views s)).computed s id v refl);
@@ -75,6 +81,12 @@ module _ {P : States → Type 0} (goes : GoesBy P) where
 
   pub goes_stays : (p : Program) → Stays p (at_ends P)
   goes_stays p = ends_stay (steps_stay goes_steps p)
+
+  pub goes-loaded : (p : Program) (w : World) → P w.states → Left (at_ends P) (run_modules p w)
+  goes-loaded p w h = (modules_leave (goes_stays p) (λ ms ms' s k. k)).held w h
+
+  pub goes-opened : (p : Program) (n : ℕ) (props : List (ℕ × Val)) (w : World) → P w.states → Left (at_ends P) (run_top p n props w)
+  goes-opened p n props w h = (top_leaves (goes_stays p) n (sets_by goes_setups n) props).held w h
 
   -- and what flushes do besides
   pub goes-bound : (p : Program) (w : World) (n : ℕ) (b : Bound) → P w.states → Left (at_ends P) (settle p (record w { states = bound_up w.states n b }))
@@ -105,7 +117,7 @@ module _ {But : ℕ → Type 0} where
   pub tracks_stay : (p : Program) (shown : List (ℕ × Shown)) → Stays p (at_ends (Tracks But shown))
   tracks_stay p shown = goes_stays (tracks_go shown) p
 
-  tracks-viewed : (shown : List (ℕ × Shown)) (s : States) (n c : ℕ) (view : View) → Tracks But shown s → Tracks But shown (viewed s n c view)
+  pub tracks-viewed : (shown : List (ℕ × Shown)) (s : States) (n c : ℕ) (view : View) → Tracks But shown s → Tracks But shown (viewed s n c view)
   tracks-viewed shown s n c view h = tracks_on shown s _ h (sound-viewed s n c view h.sound) (snapshots-viewed s n c view)
 
 tracks-added : (shown : List (ℕ × Shown)) (s : States) (i : Instance) → IsNew i → Tracks nobody shown s → Tracks (Only (length s.lives)) shown (added s i)
@@ -155,21 +167,27 @@ tracks-shown n shown s i x there is h = record {
 
 -- ---- whatever a flush does
 
-abbrev pub left_out : Option ℕ → ℕ → Type 0
-left_out None = nobody
-left_out (Some n) = Only n
+-- whoever is made or readied is left out
+abbrev pub TracksWhile : About
+TracksWhile Loading due shown ms = Tracks nobody shown
+TracksWhile Idle due shown ms = Tracks nobody shown
+TracksWhile (Fresh n) due shown ms = Tracks (Only n) shown
+TracksWhile (Busy n) due shown ms = Tracks (Only n) shown
+TracksWhile (Snapped n) due shown ms = Shot n shown
 
-pub tracks_last : (p : Program) → Lasting p (λ but due. Tracks (left_out but)) (λ n due. Shot n)
+pub tracks_last : (p : Program) → Lasting p TracksWhile
 tracks_last p = record {
-  scripts = λ but due shown. tracks_stay p shown;
+  scripts = while_running _ (λ due shown. tracks_stay p shown) (λ n due shown. tracks_stay p shown) (λ n due shown. tracks_stay p shown);
+  loads = λ due shown w h. goes-loaded (tracks_go shown) p w h;
+  opens = λ n due shown props w h. goes-opened (tracks_go shown) p n props w h;
   binds = λ due shown w n b may h. goes-bound (tracks_go shown) p w n b h;
-  hands = λ but due shown s at v h. goes-handed (tracks_go shown) s at v h;
-  lends = λ but due shown s n c view d h. tracks-viewed shown s n c view h;
-  spends = λ more due shown s h. h;
-  makes = λ due shown s place cells constants h. tracks-added shown s _ (new-born place cells constants) h;
-  drops = λ due shown s n h. tracks-gone shown s n h;
-  begins = λ n due shown s h. record { sound = h.sound; records = records-weaker nobody (Only n) (snapshots s) shown (λ j none. absurd none) h.records };
-  snaps = λ n due shown s h. record { sound = sound-snapped s n h.sound; records = snapped_but n s shown (live s n) refl h.records; now = seen-snapped n s };
-  passes = λ n due shown s e h. record { sound = h.sound; records = records-dead (snapshots s) n shown (picture_at snapshot_of s n None e) h.records };
-  shows = λ n due shown s modules i parts there h. tracks-shown n shown s i (record { view = present_view modules n i; parts = parts }) there refl h;
+  hands = while_running _ (λ due shown ms s at v h. goes-handed (tracks_go shown) s at v h) (λ n due shown ms s at v h. goes-handed (tracks_go shown) s at v h) (λ n due shown ms s at v h. goes-handed (tracks_go shown) s at v h);
+  lends = while_running _ (λ due shown ms s n c view is d h. tracks-viewed shown s n c view h) (λ m due shown ms s n c view is d h. tracks-viewed shown s n c view h) (λ m due shown ms s n c view is d h. tracks-viewed shown s n c view h);
+  spends = λ more due shown ms s h. h;
+  makes = λ due shown ms s place cells constants h. tracks-added shown s _ (new-born place cells constants) h;
+  drops = λ due shown ms s n h. tracks-gone shown s n h;
+  begins = λ n due shown ms s h. record { sound = h.sound; records = records-weaker nobody (Only n) (snapshots s) shown (λ j none. absurd none) h.records };
+  snaps = λ n due shown ms s h. record { sound = sound-snapped s n h.sound; records = snapped_but n s shown (live s n) refl h.records; now = seen-snapped n s };
+  passes = λ n due shown ms s e h. record { sound = h.sound; records = records-dead (snapshots s) n shown (picture_at snapshot_of s n None e) h.records };
+  shows = λ n due shown ms s i parts there h. tracks-shown n shown s i (record { view = present_view ms n i; parts = parts }) there refl h;
 }

@@ -23,7 +23,7 @@ place_of i = i.place
 
 -- the place of an instance stays, whatever else becomes of it
 pub plain_place : Plain place_of
-plain_place = record { setup = λ i u. refl; waits = λ i. refl; subscribed = λ i x. refl; written = λ i c x. refl }
+plain_place = record { setup = λ i u e. refl; waits = λ i. refl; subscribed = λ i x. refl; written = λ i c x. refl }
 
 -- the places of the live instances, by number
 abbrev pub spots : States → List (Option Place)
