@@ -1,3 +1,4 @@
+pub mod Any
 pub mod Numbers
 pub mod Fits
 pub mod Keeping

@@ -19,6 +19,7 @@ use Rattle.sv_code.specs.declared.parts.Part.{Part}
 use Rattle.sv_code.specs.declared.program.Program.{Program}
 use Rattle.sv_fresh.specs.States.{shown_at, with_texts, parts_state, value_state, attr_state, states}
 use Rattle.sv_fresh.specs.Values.{holds_at, is_truthy, texts_at}
+use Rattle.sv_local.specs.Versions.{AreVersions}
 use Rattle.sv_parts.specs.Attributes.{texts_kept, shown_with, shown_anew, shown_step, class_anew, class_step, shown_joined, shown_parts, shown_value, attr_step, attrs_step}
 use Rattle.sv_parts.specs.Parts.{evaluated}
 use Rattle.sv_parts.specs.Sides.{Sides}
@@ -28,7 +29,6 @@ use Rattle.sv_right.proofs.Lists.{Along, Matched, along_both, along_shift, match
 use Rattle.sv_right.proofs.Steps.{After, then_after, more_after, if_after, renewed_after, Grows, grows_same}
 use Rattle.sv_right.proofs.Texts.{ArePieces, WereKept, IsJoined, joined_after, pieces_within, pieces_found}
 use Rattle.sv_right.proofs.Values.{Valued, evaluated_after, still_value}
-use Rattle.sv_right.specs.Views.{AreAllVersions}
 use Rattle.sv_shapes.specs.declared.shape.AttrState.{AttrState}
 use Rattle.sv_shapes.specs.declared.shape.AttrState.TheVariants as state
 use Rattle.sv_value.specs.Change.{truthy}
@@ -40,7 +40,7 @@ Comes wanted s st u = (st ≡ wanted) × Grows s u
 
 -- what is held of an attribute is what it came to on the old view
 abbrev Came : AttrState → Sides → Option AttrState → Type 0
-Came was at held = (st : AttrState) → held ≡ Some st → AreAllVersions at.old at.new × (st ≡ was)
+Came was at held = (st : AttrState) → held ≡ Some st → AreVersions at.old at.new × (st ≡ was)
 
 -- ---- one expression
 
@@ -120,7 +120,7 @@ attrs_within p i (a ∷ attrs) h = (each_front (IsWithin p) (of_attr a) (of_attr
 
 -- what is held of the attributes of an element is what they came to on the old view
 abbrev pub WereStates : Program → List FragAttr → Sides → List AttrState → Type 0
-WereStates p attrs at olds = (olds ≡ []) ⊎ (AreAllVersions at.old at.new × (olds ≡ states p at.old attrs))
+WereStates p attrs at olds = (olds ≡ []) ⊎ (AreVersions at.old at.new × (olds ≡ states p at.old attrs))
 
 -- the same of the attribute with a number
 abbrev CameAt : Program → Sides → List AttrState → FragAttr → ℕ → Type 0
@@ -130,7 +130,7 @@ none_came : (p : Program) (at : Sides) (i : ℕ) (attrs : List FragAttr) → Alo
 none_came p at i [] = tt
 none_came p at i (a ∷ attrs) = ((λ st e. absurd (cc)), none_came p at (suc i) attrs)
 
-all_came : (p : Program) (at : Sides) (attrs : List FragAttr) → AreAllVersions at.old at.new → Along (CameAt p at (states p at.old attrs)) 0 attrs
+all_came : (p : Program) (at : Sides) (attrs : List FragAttr) → AreVersions at.old at.new → Along (CameAt p at (states p at.old attrs)) 0 attrs
 all_came p at [] all = tt
 all_came p at (a ∷ attrs) all = ((λ st e. (all, sym (some_same e))), along_shift (CameAt p at (states p at.old (a ∷ attrs))) 0 attrs (all_came p at attrs all))
 

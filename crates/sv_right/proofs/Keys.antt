@@ -14,6 +14,7 @@ use Rattle.sv_keyed.proofs.Times.{same_key-self, times-append, times-cons, times
 use Rattle.sv_keyed.specs.Keys.{same_key, times, IsDistinct, repeat_after, first_repeat, place_after, place_of}
 use Rattle.sv_local.proofs.Parts.{by_looks, still_cells, still_locals}
 use Rattle.sv_local.specs.Looks.{AreAlikeAt}
+use Rattle.sv_local.specs.Versions.{AreVersions}
 use Rattle.sv_meaning.specs.Moved.{has_moved}
 use Rattle.sv_meaning.specs.Moved as views
 use Rattle.sv_parts.specs.Sides.{Sides, moved}
@@ -23,7 +24,6 @@ use Rattle.sv_right.proofs.Views.{version_in, row_versions}
 use Rattle.sv_within.specs.Keys as compiled
 use Rattle.sv_within.specs.Keys.{IsKeySeen, IsHeadSeen}
 use Rattle.sv_right.specs.Right.{key_by}
-use Rattle.sv_right.specs.Views.{AreAllVersions}
 use Rattle.sv_value.specs.Key.{key_of}
 use Rattle.sv_value.specs.Value.{Val}
 use Rattle.sv_value.specs.declared.key.Key.{Key}
@@ -127,14 +127,14 @@ abbrev pub compiled_head : Head → compiled.Head
 compiled_head h = record { list = h.list; item = h.item; index = h.index; key = h.key }
 
 -- what a key looks at is alike in a row on two views of which nothing moved that the list looks at
-key_alike : (h : Head) (key : Part) (n i : ℕ) (item : Val) (v v' : View) → IsKeySeen (compiled_head h) key → AreAllVersions v v' → views.moved h.list.reads v v' ≡ false →
+key_alike : (h : Head) (key : Part) (n i : ℕ) (item : Val) (v v' : View) → IsKeySeen (compiled_head h) key → AreVersions v v' → views.moved h.list.reads v v' ≡ false →
     AreAlikeAt key.reads (row_view h n i item v) (row_view h n i item v')
 key_alike h key n i item v v' seen all still =
-    let rows = row_versions h n n i i item item v v' all (λ _. refl) (λ _. refl) in
+    let rows = row_versions h n n i i item item v v' (λ _. refl) (λ _. refl) all in
     record {
-      one = rows.own.one;
-      cells = λ c k. rows.own.cells c (cell_in_row h n i c item v ∙ still_cells h.list.reads v v' c still (seen.cells c k) ∙ sym (cell_in_row h n i c item v'));
-      locals = λ x k. rows.own.locals x
+      one = rows.one;
+      cells = λ c k. rows.cells c (cell_in_row h n i c item v ∙ still_cells h.list.reads v v' c still (seen.cells c k) ∙ sym (cell_in_row h n i c item v'));
+      locals = λ x k. rows.locals x
           (local_in_row h.list h.item h.index h.key n i item x v v' (λ e. still_locals h.list.reads v v' x still (or_second (is_bound x (row_names h.item h.index)) (has_local h.list.reads x) (seen.locals x k) e)));
     }
 
@@ -143,7 +143,7 @@ abbrev pub IsKeyWithin : Program → Option Part → Type 0
 IsKeyWithin p None = Unit {0}
 IsKeyWithin p (Some key) = IsWithin p key
 
-pub still_key : (p : Program) (h : Head) (key : Option Part) (n i : ℕ) (item : Val) (at : Sides) → IsHeadSeen (compiled_head h) key → IsKeyWithin p key → AreAllVersions at.old at.new → moved h.list.reads at ≡ false →
+pub still_key : (p : Program) (h : Head) (key : Option Part) (n i : ℕ) (item : Val) (at : Sides) → IsHeadSeen (compiled_head h) key → IsKeyWithin p key → AreVersions at.old at.new → moved h.list.reads at ≡ false →
     key_by p h key n at.old i item ≡ key_by p h key n at.new i item
 unfolding value_at moved
 still_key p h None n i item at seen within all still = refl

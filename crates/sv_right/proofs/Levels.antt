@@ -3,7 +3,7 @@ use Rattle.std.proofs.Common.{◌≡◌, inl, inr, ℕ, zero, suc, Bool, true, f
 use Rattle.std.specs.Option.{option_and_then}
 use Rattle.std.specs.Prelude.{slice_get}
 use Rattle.std.specs.Str.{bytes_eq}
-use Rattle.sv_code.proofs.Each.{each_front, each_back, each_append}
+use Rattle.sv_code.proofs.Each.{each_front, each_back, each_append, each_mono}
 use Rattle.sv_code.specs.Names.{Each}
 use Rattle.sv_code.specs.Parts as parts
 use Rattle.sv_code.specs.Within.{IsWithin}
@@ -12,17 +12,24 @@ use Rattle.sv_code.specs.declared.fragments.FragArm.{FragArm, fold-FragArm}
 use Rattle.sv_code.specs.declared.parts.Part.{Part}
 use Rattle.sv_code.specs.declared.program.Program.{Program}
 use Rattle.sv_code.specs.declared.tags.Tag.{Tag}
+use Rattle.sv_parts.specs.Sides.{Sides}
+use Rattle.sv_parts.specs.declared.state.State.{State}
+use Rattle.sv_places.specs.Any.{Any}
 use Rattle.sv_plan.specs.Content.{Content, Opened, content_at, content_of, content_named, named_as, or_else, is_empty, has_default}
 use Rattle.sv_plan.specs.Plan as plans
 use Rattle.sv_right.proofs.Lists.{some_same}
 use Rattle.sv_right.proofs.Markup.{walker_stays}
 use Rattle.sv_right.proofs.Slots.{FilledStays}
-use Rattle.sv_right.proofs.Standing.{StayAll}
-use Rattle.sv_right.proofs.Steps.{ok_after}
-use Rattle.sv_right.specs.Claims.{walker, slotted, claims}
+use Rattle.sv_right.proofs.Standing.{Start, WasTrue, StaysTrue, StayAll, NowAll}
+use Rattle.sv_right.proofs.Steps.{After, ok_after, Grows, grows_same}
+use Rattle.sv_right.specs.Claims.{Claim, walker, slotted, claims}
 use Rattle.sv_right.specs.Fits.{Fits, AllFit}
+use Rattle.sv_right.specs.Later.{ViewCells, AreAllLater, GoesOn}
+use Rattle.sv_right.specs.Right.{IsTrue}
+use Rattle.sv_right.specs.Staying.{Stands, FirstIsRight, PatchesStayRight, TagsGoOn}
+use Rattle.sv_shapes.specs.declared.shape.Shape.{Shape}
+use Rattle.sv_view.specs.Level.{View}
 use Rattle.sv_within.specs.Keys.{Head, frag_heads, arm_heads, heads_of, heads_all, IsHeadSeen, AreKeysSeen}
-use Rattle.sv_right.specs.Staying.{FirstIsRight, PatchesStayRight}
 
 -- ---- tags
 
@@ -123,27 +130,52 @@ at_fits p (Some k ∷ tags) name c all e = by (slice_get p.tags k) refl e
 
 -- ---- levels
 
-slotted_stays : (p : Program) (tags : List (Option ℕ)) (name : List ℕ) → AllFit p → FilledStays p (plans.slotted p tags name) (slotted p tags name)
-slotted_stays p [] name all = tt
-slotted_stays p (tag ∷ tags) name all = by (λ x. slotted_stays p tags x all) (content_at p (tag ∷ tags) name) refl
+slotted_stays : (p : Program) (start : Start) (tags : List (Option ℕ)) (name : List ℕ) → AllFit p → FilledStays p start (plans.slotted p tags name) (slotted p tags name)
+slotted_stays p start [] name all = tt
+slotted_stays p start (tag ∷ tags) name all = by (λ x. slotted_stays p start tags x all) (content_at p (tag ∷ tags) name) refl
   where
-    by : ((x : List ℕ) → FilledStays p (plans.slotted p tags x) (slotted p tags x)) → (o : Option Content) → content_at p (tag ∷ tags) name ≡ o →
-        FilledStays p (option_map (λ c. record { lets = c.lets; walk = plans.walker p (plans.slotted p tags) c.frags }) o) (option_map (λ c. record { lets = c.lets; walk = walker tags (slotted p tags) c.frags }) o)
+    by : ((x : List ℕ) → FilledStays p start (plans.slotted p tags x) (slotted p tags x)) → (o : Option Content) → content_at p (tag ∷ tags) name ≡ o →
+        FilledStays p start (option_map (λ c. record { lets = c.lets; walk = plans.walker p (plans.slotted p tags) c.frags }) o)
+        (option_map (λ c. record { lets = c.lets; walk = walker tags (slotted p tags) c.frags }) o)
     by outer None is = tt
-    by outer (Some c) is = (refl, walker_stays p tags (plans.slotted p tags) (slotted p tags) outer (tag_attrs p all) c.frags (at_fits p (tag ∷ tags) name c all is))
+    by outer (Some c) is = (refl, walker_stays p start tags (plans.slotted p tags) (slotted p tags) outer (tag_attrs p all) c.frags (at_fits p (tag ∷ tags) name c all is))
 
 -- the markup of an instance stays right
-pub all_stay : (p : Program) (tags : List (Option ℕ)) (frags : List Frag) → AllFit p → Fits p frags → StayAll p (plans.plan_all p tags frags) (claims p tags frags)
+all_stay : (p : Program) (start : Start) (tags : List (Option ℕ)) (frags : List Frag) → AllFit p → Fits p frags → StayAll p start (plans.plan_all p tags frags) (claims p tags frags)
 unfolding plans.plan_all claims
-all_stay p tags frags all fits = walker_stays p tags (plans.slotted p tags) (slotted p tags) (λ x. slotted_stays p tags x all) (tag_attrs p all) frags fits
+all_stay p start tags frags all fits = walker_stays p start tags (plans.slotted p tags) (slotted p tags) (λ x. slotted_stays p start tags x all) (tag_attrs p all) frags fits
 
 -- ---- the laws
 
 pub first : FirstIsRight
 first p tags frags at shapes s s' all fits e =
-    let h = ok_after (plans.plan_all p tags frags at [] s) _ shapes s' (all_stay p tags frags all fits at [] s (inl refl)) e in record { right = h.0.right; below = h.0.below }
+    let start : Start = record { views = λ _. None; next = s.counters.next; olds = [] } in
+    let h = ok_after (plans.plan_all p tags frags at [] s) _ shapes s' (all_stay p start tags frags all fits at [] s (grows_same s, inl refl)) e in
+    record { right = each_mono (StaysTrue p start) (IsTrue p) (λ c q. q.0) (claims p tags frags at.new shapes) h.0.right; below = h.0.below }
+
+-- claims that are among the old ones, where they are true
+were_true : (p : Program) (start : Start) (cs : List Claim) → ((c : Claim) → Any (λ d. d ≡ c) cs → Any (λ d. d ≡ c) start.olds) → Each (IsTrue p) cs → Each (WasTrue p start) cs
+were_true p start [] inside h = tt
+were_true p start (c ∷ cs) inside h = ((h.0, inside c (inl refl)), were_true p start cs (λ d q. inside d (inr q)) h.1)
+
+-- what a patch of some shapes starts from
+abbrev begun : Program → ViewCells → List (Option ℕ) → List Frag → View → State → List Shape → Start
+begun p views tags frags old s olds = record { views = views; next = s.counters.next; olds = claims p tags frags old olds }
+
+-- what a patch of right shapes gives
+patched : (p : Program) (views : ViewCells) (tags : List (Option ℕ)) (frags : List Frag) (at : Sides) (olds : List Shape) (s : State) → AllFit p → Fits p frags → AreAllLater views at.old at.new →
+    Stands p tags frags at.old s.counters.next olds →
+    After (plans.plan_all p tags frags at olds s) (λ xs u. NowAll p (begun p views tags frags at.old s olds) (claims p tags frags) at.new u.counters.next xs × Grows s u)
+patched p views tags frags at olds s all fits later were =
+    let start : Start = begun p views tags frags at.old s olds in
+    all_stay p start tags frags all fits at olds s (grows_same s, inr (later, record { right = were_true p start (claims p tags frags at.old olds) (λ c q. q) were.right; below = were.below }))
 
 pub patches : PatchesStayRight
-patches p tags frags at olds shapes s s' all fits versions were e =
-    let h = ok_after (plans.plan_all p tags frags at olds s) _ shapes s' (all_stay p tags frags all fits at olds s (inr (versions, record { right = were.right; below = were.below }))) e in
-    record { right = h.0.right; below = h.0.below }
+patches p views tags frags at olds shapes s s' all fits later were e =
+    let h = ok_after (plans.plan_all p tags frags at olds s) _ shapes s' (patched p views tags frags at olds s all fits later were) e in
+    record { right = each_mono (StaysTrue p (begun p views tags frags at.old s olds)) (IsTrue p) (λ c q. q.0) (claims p tags frags at.new shapes) h.0.right; below = h.0.below }
+
+pub going_on : TagsGoOn
+going_on p views tags frags at olds shapes s s' all fits later were e =
+    let h = ok_after (plans.plan_all p tags frags at olds s) _ shapes s' (patched p views tags frags at olds s all fits later were) e in
+    each_mono (StaysTrue p (begun p views tags frags at.old s olds)) (GoesOn views s.counters.next (claims p tags frags at.old olds)) (λ c q. q.1) (claims p tags frags at.new shapes) h.0.right

@@ -9,6 +9,7 @@ use Rattle.sv_fresh.specs.Blocks as fresh
 use Rattle.sv_fresh.specs.Sources.{row_items}
 use Rattle.sv_fresh.specs.Values.{value_at}
 use Rattle.sv_keyed.specs.Keys.{first_repeat}
+use Rattle.sv_local.specs.Versions.{AreVersions}
 use Rattle.sv_parts.specs.Parts.{evaluated}
 use Rattle.sv_parts.specs.Sides.{Sides, moved}
 use Rattle.sv_parts.specs.State.{andThen, spent, numbered, destroyed}
@@ -22,7 +23,6 @@ use Rattle.sv_right.proofs.Steps.{After, then_after, more_after, if_after, Grows
 use Rattle.sv_right.proofs.Values.{Valued, evaluated_after, still_value}
 use Rattle.sv_within.specs.Keys.{IsHeadSeen}
 use Rattle.sv_right.specs.Right.{key_by, key_at}
-use Rattle.sv_right.specs.Views.{AreAllVersions}
 use Rattle.sv_shapes.specs.declared.shape.Row.{Row}
 use Rattle.sv_shapes.specs.declared.shape.Shape.{Shape}
 use Rattle.sv_value.specs.Key.{key_of}
@@ -119,7 +119,7 @@ once_after (Some part) entries s own = refuse_after part (first_repeat (keys_of 
 
 -- the list is evaluated and gets a new number, or its rows stay and its number does
 abbrev IsNumbered : Sides → Option ℕ → List Row → State → Listing → Type 0
-IsNumbered at old rows s x = (s.counters.next ≤ x.number) ⊎ (AreAllVersions at.old at.new × ((old ≡ Some x.number) × (x.entries ≡ map entry_of rows)))
+IsNumbered at old rows s x = (s.counters.next ≤ x.number) ⊎ (AreVersions at.old at.new × ((old ≡ Some x.number) × (x.entries ≡ map entry_of rows)))
 
 -- the rows to come are listed, in a list that is new or stayed
 pub record Lists (p : Program) (h : Head) (at : Sides) (old : Option ℕ) (rows : List Row) (s : State) (x : Listing) (u : State) : Type 0 where
@@ -169,7 +169,7 @@ anew_after p h at old rows none s =
 
 -- what is known of the rows of a list with a number
 pub record WereRows (p : Program) (h : Head) (at : Sides) (n k : ℕ) (rows : List Row) : Type 0 where
-  pub versions : AreAllVersions at.old at.new
+  pub versions : AreVersions at.old at.new
   pub items : row_items rows ≡ fresh.items_in (value_at p at.old h.list)
   pub keys : (i : ℕ) (row : Row) → slice_get rows i ≡ Some row → key_at p h n at.old i row.item ≡ Some row.key
   pub once : first_repeat (row_keys rows) ≡ None

@@ -15,6 +15,7 @@ use Rattle.sv_code.specs.declared.parts.Part.{Part}
 use Rattle.sv_code.specs.declared.program.Program.{Program}
 use Rattle.sv_fresh.specs.Slots as fresh
 use Rattle.sv_fresh.specs.Values.{value_at, texts_at, value_by}
+use Rattle.sv_local.specs.Versions.{AreVersions}
 use Rattle.sv_ops.specs.Texts.{between}
 use Rattle.sv_parts.specs.Parts.{evaluated}
 use Rattle.sv_parts.specs.Sides.{Sides, moved}
@@ -27,7 +28,6 @@ use Rattle.sv_right.proofs.Steps.{After, then_after, more_after, if_after, Grows
 use Rattle.sv_right.proofs.Texts.{ArePieces, WereKept, IsJoined, joined_after, pieces_within, pieces_found, literal_there, or_left, or_right}
 use Rattle.sv_right.proofs.Values.{Valued, evaluated_after, still_value}
 use Rattle.sv_right.specs.Right.{joined_texts, value_texts, kept_texts, passed_at}
-use Rattle.sv_right.specs.Views.{AreAllVersions}
 use Rattle.sv_value.specs.Value.{Val, text, boolean}
 use Rattle.sv_view.specs.Level.{View}
 
@@ -58,7 +58,7 @@ pub record IsPassed (was now : Option Val) (before kept : List (List ℕ)) (is_n
 
 -- ---- one expression alone
 
-alone_after : (p : Program) (part : Part) (is_new : Bool) (at : Sides) (s : State) → IsWithin p part → (is_new ≡ false → AreAllVersions at.old at.new) →
+alone_after : (p : Program) (part : Part) (is_new : Bool) (at : Sides) (s : State) → IsWithin p part → (is_new ≡ false → AreVersions at.old at.new) →
     After (alone_step p part is_new at s) (IsPassed (value_at p at.old part) (value_at p at.new part) [] [] is_new s)
 alone_after p part is_new at s fits all =
     if_after (is_new || moved part.reads at) _ (Ok (unvalued, s)) (IsPassed (value_at p at.old part) (value_at p at.new part) [] [] is_new s)
@@ -76,7 +76,7 @@ alone_after p part is_new at s fits all =
 
 -- no text is kept of what is new; else those are kept that the old view gives
 abbrev pub WerePassed : List (List ℕ) → Sides → Bool → List (List ℕ) → Type 0
-WerePassed texts at is_new olds = ((olds ≡ []) × (is_new ≡ true)) ⊎ (AreAllVersions at.old at.new × (olds ≡ texts))
+WerePassed texts at is_new olds = ((olds ≡ []) × (is_new ≡ true)) ⊎ (AreVersions at.old at.new × (olds ≡ texts))
 
 passed_kept : (p : Program) (parts : List FragValuePart) (at : Sides) (is_new : Bool) (olds : List (List ℕ)) → WerePassed (unwrap_or (texts_at p at.old parts) []) at is_new olds → WereKept p parts at is_new olds
 passed_kept p parts at is_new olds (inl h) = inl (h.0, (λ q. absurd (true≢false (sym h.1 ∙ q))))
@@ -105,7 +105,7 @@ joined_passed p span parts olds is_new at s fits were =
 
 -- ---- values
 
-agree_now : (at : Sides) (is_new : Bool) (olds : List (List ℕ)) → WerePassed [] at is_new olds → is_new ≡ false → AreAllVersions at.old at.new
+agree_now : (at : Sides) (is_new : Bool) (olds : List (List ℕ)) → WerePassed [] at is_new olds → is_new ≡ false → AreVersions at.old at.new
 agree_now at is_new olds (inl h) q = absurd (true≢false (sym h.1 ∙ q))
 agree_now at is_new olds (inr h) q = h.0
 

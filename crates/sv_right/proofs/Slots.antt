@@ -7,6 +7,7 @@ use Rattle.sv_code.specs.Parts.{of_attr, of_attrs}
 use Rattle.sv_code.specs.Within.{IsWithin}
 use Rattle.sv_code.specs.declared.fragments.FragAttr.{FragAttr}
 use Rattle.sv_code.specs.declared.program.Program.{Program}
+use Rattle.sv_local.specs.Versions.{AreVersions}
 use Rattle.sv_parts.specs.Sides.{Sides}
 use Rattle.sv_parts.specs.State.{Run, andThen, each, one}
 use Rattle.sv_parts.specs.Tags.{passed_name, passed_value}
@@ -17,13 +18,12 @@ use Rattle.sv_plan.specs.Slots.{prop_named, prop_anew, prop_by, texts_of, prop_s
 use Rattle.sv_right.proofs.Growing.{passed_up}
 use Rattle.sv_right.proofs.Lists.{some_same}
 use Rattle.sv_right.proofs.Passing.{IsPassed, WerePassed, given_at, passed_given, attr_passed}
-use Rattle.sv_right.proofs.Standing.{Layer, WasLayer, StaysLayer, Now, Below, layer_versions, WereAll, StayAll, made, parts_below, below_on, were_on}
+use Rattle.sv_right.proofs.Standing.{Start, WasTrue, StaysTrue, HoldsAll, Layer, WasLayer, StaysLayer, Below, layer_versions, WereAll, StayAll, made, parts_below, below_on, were_on}
 use Rattle.sv_right.proofs.Steps.{After, then_after, more_after, both_after, all_after, cons_after, Grows, Up, grows_same, grows_on}
-use Rattle.sv_right.proofs.Views.{IsLaterProp, content_versions}
+use Rattle.sv_right.proofs.Views.{IsLaterProp, AreLaterProps, content_later}
 use Rattle.sv_right.specs.Claims.{Walker, Filled, OfSlot, slot_claims}
 use Rattle.sv_right.specs.Given.{of_props, versions_all}
-use Rattle.sv_right.specs.Right.{IsTrue, IsProp, passed_at, kept_texts, or_first, first_passing}
-use Rattle.sv_right.specs.Views.{AreAllVersions}
+use Rattle.sv_right.specs.Right.{IsProp, passed_at, kept_texts, or_first, first_passing}
 use Rattle.sv_shapes.specs.Shapes.{Opened, props_in, parts_in}
 use Rattle.sv_shapes.specs.declared.shape.Row.{Row}
 use Rattle.sv_shapes.specs.declared.shape.Shape.{Shape, Shape-F}
@@ -37,17 +37,17 @@ use Rattle.sv_view.specs.Level.{View}
 -- a prop that there was is what its attribute passed on the old view
 abbrev WasProp : Program → FragAttr → Sides → Option SlotProp → Type 0
 WasProp p a at None = Unit {0}
-WasProp p a at (Some old) = AreAllVersions at.old at.new × ((passed_at p at.old a ≡ Some old.value) × (old.texts ≡ kept_texts p at.old a))
+WasProp p a at (Some old) = AreVersions at.old at.new × ((passed_at p at.old a ≡ Some old.value) × (old.texts ≡ kept_texts p at.old a))
 
 -- its number was given before the next one
 abbrev IsPropBelow : ℕ → Option SlotProp → Type 0
 IsPropBelow k None = Unit {0}
 IsPropBelow k (Some old) = old.number < k
 
--- the same number means the same value
+-- it is later than the one that there was
 abbrev IsLater : Option SlotProp → SlotProp → Type 0
 IsLater None new = Unit {0}
-IsLater (Some old) new = old.number ≡ new.number → old.value ≡ new.value
+IsLater (Some old) new = IsLaterProp old new
 
 -- a prop is what its attribute passes on a view
 record IsPropOf (p : Program) (a : FragAttr) (v : View) (old : Option SlotProp) (s : State) (prop : SlotProp) (u : State) : Type 0 where
@@ -63,12 +63,12 @@ were_passed p a at (Some old) was = inr (was.0, was.1.1)
 prop_new : (p : Program) (a : FragAttr) (name : Name) (at : Sides) (old : Option SlotProp) (texts : List (List ℕ)) (x : Val) (s v : State) → IsPropBelow s.counters.next old → Grows s v →
     passed_at p at.new a ≡ Some x → texts ≡ kept_texts p at.new a → After (prop_anew name texts x v) (IsPropOf p a at.new old s)
 prop_new p a name at None texts x s v below g e k = record { value = e; texts = k; later = tt; grows = omega (arith, g) }
-prop_new p a name at (Some old) texts x s v below g e k = record { value = e; texts = k; later = λ q. absurd (omega (arith, below, g, q)); grows = omega (arith, g) }
+prop_new p a name at (Some old) texts x s v below g e k = record { value = e; texts = k; later = (omega (arith, below, g), (λ q. absurd (omega (arith, below, g, q)))); grows = omega (arith, g) }
 
 prop_by_after : (p : Program) (a : FragAttr) (name : Name) (at : Sides) (old : Option SlotProp) (o : Option Val) (x : found.Valued) (s v : State) → x.value ≡ o → WasProp p a at old → IsPropBelow s.counters.next old →
     IsPassed (given_at p at.old a) (given_at p at.new a) (kept_texts p at.old a) (kept_texts p at.new a) (is_none old) s x v → After (prop_by name old x.texts o v) (IsPropOf p a at.new old s)
 prop_by_after p a name at (Some old) None x s v is was below h =
-    record { value = passed_given p at.new a ∙ sym (h.stays refl is).0 ∙ sym (passed_given p at.old a) ∙ was.1.0; texts = was.1.1 ∙ (h.stays refl is).1; later = λ _. refl; grows = h.grows }
+    record { value = passed_given p at.new a ∙ sym (h.stays refl is).0 ∙ sym (passed_given p at.old a) ∙ was.1.0; texts = was.1.1 ∙ (h.stays refl is).1; later = (omega arith, (λ _. refl)); grows = h.grows }
 prop_by_after p a name at (Some old) (Some y) x s v is was below h = prop_new p a name at (Some old) x.texts y s v below h.grows (passed_given p at.new a ∙ h.given y is) h.texts
 prop_by_after p a name at None None x s v is was below h = absurd (h.anew refl is)
 prop_by_after p a name at None (Some y) x s v is was below h = prop_new p a name at None x.texts y s v below h.grows (passed_given p at.new a ∙ h.given y is) h.texts
@@ -248,21 +248,21 @@ abbrev pub slot_layer : List FragAttr → Option Filled → Walker → Layer
 slot_layer attrs filled own v held = OfSlot attrs v held ∷ slot_claims filled own v held
 
 -- content that a slot shows stays right
-abbrev pub FilledStays : Program → Option plans.Filled → Option Filled → Type 0
-FilledStays p None None = Unit {0}
-FilledStays p None (Some g) = ⊥
-FilledStays p (Some f) None = ⊥
-FilledStays p (Some f) (Some g) = (f.lets ≡ g.lets) × StayAll p f.walk g.walk
+abbrev pub FilledStays : Program → Start → Option plans.Filled → Option Filled → Type 0
+FilledStays p start None None = Unit {0}
+FilledStays p start None (Some g) = ⊥
+FilledStays p start (Some f) None = ⊥
+FilledStays p start (Some f) (Some g) = (f.lets ≡ g.lets) × StayAll p start f.walk g.walk
 
-was_prop : (p : Program) (at : Sides) (a : FragAttr) (old : Option SlotProp) → AreAllVersions at.old at.new → IsProp p at.old (Some a) old → WasProp p a at old
+was_prop : (p : Program) (at : Sides) (a : FragAttr) (old : Option SlotProp) → AreVersions at.old at.new → IsProp p at.old (Some a) old → WasProp p a at old
 was_prop p at a None all h = tt
 was_prop p at a (Some old) all h = (all, h)
 
-was_at : (p : Program) (attrs : List FragAttr) (filled : Option Filled) (own : Walker) (at : Sides) (k : ℕ) (held : Opened) → WasLayer p (slot_layer attrs filled own) at k held →
+was_at : (p : Program) (start : Start) (attrs : List FragAttr) (filled : Option Filled) (own : Walker) (at : Sides) (k : ℕ) (held : Opened) → WasLayer p start (slot_layer attrs filled own) at k held →
     (name : Name) → WasAt p at name attrs (prop_named name (props_in held))
-was_at p attrs filled own at k None was name a e = tt
-was_at p attrs filled own at k (Some o) was name a e =
-    was_prop p at a (prop_named name (props_in (Some o))) was.0 (subst (λ z. IsProp p at.old z (prop_named name (props_in (Some o)))) e (was.1.right.0.1 name))
+was_at p start attrs filled own at k None was name a e = tt
+was_at p start attrs filled own at k (Some o) was name a e =
+    was_prop p at a (prop_named name (props_in (Some o))) was.1.0.own.versions (subst (λ z. IsProp p at.old z (prop_named name (props_in (Some o)))) e (was.1.1.right.0.0.1 name))
 
 props_below_in : (k : ℕ) (o : Shape-F Shape Row) → Below k (layer_versions o) → Below k (of_props (props_in (Some o)))
 props_below_in k (Shape-F.Slot props parts) h = each_front (λ n. n < k) (of_props props) (versions_all parts) h
@@ -275,11 +275,11 @@ props_below_in k (Shape-F.If arm parts) h = tt
 props_below_in k (Shape-F.Each number rows none) h = tt
 props_below_in k (Shape-F.Key state parts) h = tt
 
-olds_below : (p : Program) (layer : Layer) (at : Sides) (k : ℕ) (held : Opened) → WasLayer p layer at k held → Below k (of_props (props_in held))
-olds_below p layer at k None was = tt
-olds_below p layer at k (Some o) was = props_below_in k o was.1.below
+olds_below : (p : Program) (start : Start) (layer : Layer) (at : Sides) (k : ℕ) (held : Opened) → WasLayer p start layer at k held → Below k (of_props (props_in held))
+olds_below p start layer at k None was = tt
+olds_below p start layer at k (Some o) was = props_below_in k o was.1.1.below
 
-later_prop : (p : Program) (v v' : View) (first : Option FragAttr) (old new : Option SlotProp) → IsProp p v first old → IsPropAt p v' first old new → IsLaterProp old new
+later_prop : (p : Program) (v v' : View) (first : Option FragAttr) (old new : Option SlotProp) → IsProp p v first old → IsPropAt p v' first old new → AreLaterProps old new
 later_prop p v v' None None None h k = tt
 later_prop p v v' None None (Some n) h k = absurd (cc (k.is))
 later_prop p v v' None (Some o) None h k = absurd (cc)
@@ -288,48 +288,52 @@ later_prop p v v' (Some a) None new h k = absurd h
 later_prop p v v' (Some a) (Some o) None h k = absurd k.is
 later_prop p v v' (Some a) (Some o) (Some n) h k = k.later n refl
 
-content_after : (p : Program) (attrs : List FragAttr) (filled : Option plans.Filled) (filled' : Option Filled) (walk : plans.Walker) (own : Walker) (at : Sides) (held : Opened) (k : ℕ) (props : List SlotProp) (s v : State) →
-    FilledStays p filled filled' → StayAll p walk own → WasLayer p (slot_layer attrs filled' own) at k held → k ≤ v.counters.next → ArePropsNow p attrs at.new (props_in held) s props v →
-    After (plans.content_step filled walk at (props_in held) props (parts_in held) v)
-    (λ xs u. Now p (slot_claims filled' own at.new (Some (Shape-F.Slot props xs))) u.counters.next (versions_all xs) × Grows v u)
-content_after p attrs None None walk own at held k props s v fill stay was le now = stay at (parts_in held) v (were_on p own at k v.counters.next le (parts_in held) (were held was))
+-- what a slot shows is right on a view
+abbrev Shows : Program → Start → Option Filled → Walker → View → List SlotProp → State → List Shape → State → Type 0
+Shows p start filled own v props s xs u = HoldsAll (StaysTrue p start) (slot_claims filled own v (Some (Shape-F.Slot props xs))) u.counters.next (versions_all xs) × Grows s u
+
+content_after : (p : Program) (start : Start) (attrs : List FragAttr) (filled : Option plans.Filled) (filled' : Option Filled) (walk : plans.Walker) (own : Walker) (at : Sides) (held : Opened) (k : ℕ) (props : List SlotProp) (s v : State) →
+    FilledStays p start filled filled' → StayAll p start walk own → WasLayer p start (slot_layer attrs filled' own) at k held → k ≤ v.counters.next → ArePropsNow p attrs at.new (props_in held) s props v →
+    After (plans.content_step filled walk at (props_in held) props (parts_in held) v) (Shows p start filled' own at.new props v)
+content_after p start attrs None None walk own at held k props s v fill stay was le now = stay at (parts_in held) v (were_on p start own at k v.counters.next le (parts_in held) (were held was))
   where
-    were : (h : Opened) → WasLayer p (slot_layer attrs None own) at k h → WereAll p own at k (parts_in h)
-    were None w = inl refl
-    were (Some o) w = inr (w.0, record { right = w.1.right.1; below = parts_below k o w.1.below })
-content_after p attrs None (Some g) walk own at held k props s v fill stay was le now = absurd fill
-content_after p attrs (Some f) None walk own at held k props s v fill stay was le now = absurd fill
-content_after p attrs (Some f) (Some g) walk own at held k props s v fill stay was le now =
-    subst (λ lets. After (f.walk (content_sides f.lets (props_in held) props at) (parts_in held) v) (λ xs u. Now p (g.walk (content_view lets props at.new) xs) u.counters.next (versions_all xs) × Grows v u)) fill.0
+    were : (h : Opened) → WasLayer p start (slot_layer attrs None own) at k h → WereAll p start own at k (parts_in h)
+    were None w = (w.0, inl refl)
+    were (Some o) w = (w.0, inr (w.1.0, record { right = w.1.1.right.1; below = parts_below k o w.1.1.below }))
+content_after p start attrs None (Some g) walk own at held k props s v fill stay was le now = absurd fill
+content_after p start attrs (Some f) None walk own at held k props s v fill stay was le now = absurd fill
+content_after p start attrs (Some f) (Some g) walk own at held k props s v fill stay was le now =
+    subst (λ lets. After (f.walk (content_sides f.lets (props_in held) props at) (parts_in held) v) (λ xs u. HoldsAll (StaysTrue p start) (g.walk (content_view lets props at.new) xs) u.counters.next (versions_all xs) × Grows v u)) fill.0
     (fill.1 (content_sides f.lets (props_in held) props at) (parts_in held) v (were held was (λ name. now.at name)))
   where
-    were : (h : Opened) → WasLayer p (slot_layer attrs (Some g) own) at k h →
+    were : (h : Opened) → WasLayer p start (slot_layer attrs (Some g) own) at k h →
         ((name : Name) → IsPropAt p at.new (first_passing name attrs) (prop_named name (props_in h)) (prop_named name props)) →
-        WereAll p g.walk (content_sides f.lets (props_in h) props at) v.counters.next (parts_in h)
-    were None w news = inl refl
-    were (Some o) w news =
-        inr (
-          content_versions f.lets (props_in (Some o)) props at.old at.new
-              (λ x. later_prop p at.old at.new (first_passing x attrs) (prop_named x (props_in (Some o))) (prop_named x props) (w.1.right.0.1 x) (news x)) w.0,
-          record {
-            right = subst (λ lets. Each (IsTrue p) (g.walk (content_view lets (props_in (Some o)) at.old) (parts_in (Some o)))) (sym fill.0) w.1.right.1;
-            below = below_on k v.counters.next le (versions_all (parts_in (Some o))) (parts_below k o w.1.below);
-          },
-        )
+        WereAll p start g.walk (content_sides f.lets (props_in h) props at) v.counters.next (parts_in h)
+    were None w news = (omega (arith, w.0, le), inl refl)
+    were (Some o) w news = (
+      omega (arith, w.0, le),
+      inr (
+        content_later start.views f.lets (props_in (Some o)) props at.old at.new
+            (λ x. later_prop p at.old at.new (first_passing x attrs) (prop_named x (props_in (Some o))) (prop_named x props) (w.1.1.right.0.0.1 x) (news x)) w.1.0,
+        record {
+          right = subst (λ lets. Each (WasTrue p start) (g.walk (content_view lets (props_in (Some o)) at.old) (parts_in (Some o)))) (sym fill.0) w.1.1.right.1;
+          below = below_on k v.counters.next le (versions_all (parts_in (Some o))) (parts_below k o w.1.1.below);
+        },
+      ),
+    )
 
-pub slot_stays : (p : Program) (attrs : List FragAttr) (filled : Option plans.Filled) (filled' : Option Filled) (walk : plans.Walker) (own : Walker) → Each (IsWithin p) (of_attrs attrs) →
-    FilledStays p filled filled' → StayAll p walk own → StaysLayer p (λ at held s. plans.slot_step p attrs filled walk at held s) (slot_layer attrs filled' own)
-slot_stays p attrs filled filled' walk own fits fill stay at held s was =
+pub slot_stays : (p : Program) (start : Start) (attrs : List FragAttr) (filled : Option plans.Filled) (filled' : Option Filled) (walk : plans.Walker) (own : Walker) → Each (IsWithin p) (of_attrs attrs) →
+    FilledStays p start filled filled' → StayAll p start walk own → StaysLayer p start (λ at held s. plans.slot_step p attrs filled walk at held s) (slot_layer attrs filled' own)
+slot_stays p start attrs filled filled' walk own fits fill stay at held s was =
     then_after (props_step p attrs (props_in held) at s) (λ props v. andThen (plans.content_step filled walk at (props_in held) props (parts_in held) v) (λ parts u. Ok (shape.Slot props parts, u)))
     (ArePropsNow p attrs at.new (props_in held) s) _
-    (props_after p attrs (props_in held) at s fits (olds_below p (slot_layer attrs filled' own) at s.counters.next held was) (was_at p attrs filled' own at s.counters.next held was))
-    (λ props v h. then_after (plans.content_step filled walk at (props_in held) props (parts_in held) v) (λ parts u. Ok (shape.Slot props parts, u))
-    (λ xs u. Now p (slot_claims filled' own at.new (Some (Shape-F.Slot props xs))) u.counters.next (versions_all xs) × Grows v u) _
-    (content_after p attrs filled filled' walk own at held s.counters.next props s v fill stay was h.grows h)
+    (props_after p attrs (props_in held) at s fits (olds_below p start (slot_layer attrs filled' own) at s.counters.next held was) (was_at p start attrs filled' own at s.counters.next held was))
+    (λ props v h. then_after (plans.content_step filled walk at (props_in held) props (parts_in held) v) (λ parts u. Ok (shape.Slot props parts, u)) (Shows p start filled' own at.new props v) _
+    (content_after p start attrs filled filled' walk own at held s.counters.next props s v fill stay was h.grows h)
     (λ parts u q. (
-      made p (slot_layer attrs filled' own) at.new u.counters.next (shape.Slot props parts) (Shape-F.Slot props parts) (shape.outs-Slot props parts)
+      made p start (slot_layer attrs filled' own) at.new u.counters.next (shape.Slot props parts) (Shape-F.Slot props parts) (shape.outs-Slot props parts)
           (record {
-            right = ((tt, (λ name. (h.at name).is)), q.0.right);
+            right = (((tt, (λ name. (h.at name).is)), tt), q.0.right);
             below = each_append (λ n. n < u.counters.next) (of_props props) (versions_all parts) (below_on v.counters.next u.counters.next q.1 (of_props props) h.below) q.0.below;
           }),
       grows_on s v u h.grows q.1,

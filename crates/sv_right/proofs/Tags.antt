@@ -1,5 +1,5 @@
 -- Component tags.
-use Rattle.std.proofs.Common.{◌≡◌, ◌⊎◌, inl, inr, ℕ, ◌+◌, Bool, true, false, List, [], ◌∷◌, map, Option, Some, None, unwrap_or, refl, sym, ap, subst, arith, Ok}
+use Rattle.std.proofs.Common.{◌≡◌, ◌⊎◌, inl, inr, ℕ, ◌+◌, ◌≤◌, Bool, true, false, List, [], ◌∷◌, map, Option, Some, None, unwrap_or, refl, sym, ap, subst, arith, Ok}
 use Rattle.std.specs.Prelude.{slice_get}
 use Rattle.sv_code.specs.Names.{Each}
 use Rattle.sv_code.specs.Parts.{of_attr, of_attrs}
@@ -7,20 +7,22 @@ use Rattle.sv_code.specs.Within.{IsWithin}
 use Rattle.sv_code.specs.declared.fragments.FragAttr.{FragAttr}
 use Rattle.sv_code.specs.declared.program.Program.{Program}
 use Rattle.sv_code.specs.declared.tags.Tag.{Tag}
+use Rattle.sv_local.specs.Versions.{AreVersions}
 use Rattle.sv_meaning.specs.Components.{component_at}
 use Rattle.sv_parts.specs.Sides.{Sides}
 use Rattle.sv_parts.specs.State.{andThen, remembered}
 use Rattle.sv_parts.specs.Tags.{texts_at, passed_value, offered, offer_step, offers_step, texts_of, create_step, props_given, props_at, view_for, set_step, keep_step, tag_by, tag_over, tag_step}
 use Rattle.sv_parts.specs.declared.state.Given.{Given}
 use Rattle.sv_parts.specs.declared.state.State.{State}
+use Rattle.sv_places.specs.Any.{Any}
 use Rattle.sv_right.proofs.Attributes.{attrs_within}
 use Rattle.sv_right.proofs.Lists.{Along, Matched, along_mono, along_both, along_of, matched_same, map_get, plain_after}
 use Rattle.sv_right.proofs.Passing.{WerePassed, attr_texts}
-use Rattle.sv_right.proofs.Standing.{Layer, NowLayer, WasLayer, StaysLayer, made}
+use Rattle.sv_right.proofs.Standing.{Start, Layer, NowLayer, WasLayer, StaysLayer, made}
 use Rattle.sv_right.proofs.Steps.{After, then_after, more_after, Grows, Up, grows_same, grows_on}
-use Rattle.sv_right.specs.Claims.{OfTag}
+use Rattle.sv_right.specs.Claims.{Claim, OfTag}
+use Rattle.sv_right.specs.Later.{IsEarlier, GoesOnAt}
 use Rattle.sv_right.specs.Right.{IsTagTrue, kept_texts}
-use Rattle.sv_right.specs.Views.{AreAllVersions}
 use Rattle.sv_shapes.specs.Shapes.{Opened, texts_in, place_in}
 use Rattle.sv_shapes.specs.declared.shape.Shape.{Shape, Shape-F, out-Shape}
 use Rattle.sv_shapes.specs.declared.shape.Shape.TheVariants as shape
@@ -30,7 +32,7 @@ use Rattle.sv_view.specs.Level.{View}
 
 -- no text was kept, as they are new, or those of the old view
 abbrev WereOffers : Program → List FragAttr → Sides → Bool → List (List (List ℕ)) → Type 0
-WereOffers p attrs at is_new texts = ((texts ≡ []) × (is_new ≡ true)) ⊎ (AreAllVersions at.old at.new × (texts ≡ map (kept_texts p at.old) attrs))
+WereOffers p attrs at is_new texts = ((texts ≡ []) × (is_new ≡ true)) ⊎ (AreVersions at.old at.new × (texts ≡ map (kept_texts p at.old) attrs))
 
 -- the same of the attribute with a number
 abbrev WasOffer : Program → Sides → Bool → List (List (List ℕ)) → FragAttr → ℕ → Type 0
@@ -76,45 +78,60 @@ abbrev pub tag_layer : List (Option ℕ) → ℕ → Layer
 tag_layer tags tag v held = OfTag tags tag v held ∷ []
 
 -- a tag that is there, with the texts of its attributes
-abbrev Tagged : Program → List (Option ℕ) → ℕ → View → State → Shape → State → Type 0
-Tagged p tags tag v s x u = NowLayer p (tag_layer tags tag) v u.counters.next (out-Shape x) × Grows s u
+abbrev Tagged : Program → Start → List (Option ℕ) → ℕ → View → State → Shape → State → Type 0
+Tagged p start tags tag v s x u = NowLayer p start (tag_layer tags tag) v u.counters.next (out-Shape x) × Grows s u
 
-tagged : (p : Program) (tags : List (Option ℕ)) (tag place : ℕ) (t : Tag) (texts : List (List (List ℕ))) (v : View) (k : ℕ) → slice_get p.tags tag ≡ Some t → texts ≡ map (kept_texts p v) t.attrs →
-    NowLayer p (tag_layer tags tag) v k (out-Shape (shape.Tag place texts))
-tagged p tags tag place t texts v k is e =
-    made p (tag_layer tags tag) v k (shape.Tag place texts) (Shape-F.Tag place texts) (shape.outs-Tag place texts)
-    (record { right = (subst (λ o. IsTagTrue p v o (Some (Shape-F.Tag place texts))) (sym is) (tt, e), tt); below = tt })
+tagged : (p : Program) (start : Start) (tags : List (Option ℕ)) (tag place : ℕ) (t : Tag) (texts : List (List (List ℕ))) (v : View) (k : ℕ) → slice_get p.tags tag ≡ Some t → texts ≡ map (kept_texts p v) t.attrs →
+    GoesOnAt start.views start.next start.olds v (Some place) → NowLayer p start (tag_layer tags tag) v k (out-Shape (shape.Tag place texts))
+tagged p start tags tag place t texts v k is e goes =
+    made p start (tag_layer tags tag) v k (shape.Tag place texts) (Shape-F.Tag place texts) (shape.outs-Tag place texts)
+    (record { right = ((subst (λ o. IsTagTrue p v o (Some (Shape-F.Tag place texts))) (sym is) (tt, e), goes), tt); below = tt })
 
--- the texts of a tag that was there
-abbrev WasTag : Program → Tag → Sides → Option ℕ → List (List (List ℕ)) → Type 0
-WasTag p t at old texts = (place : ℕ) → old ≡ Some place → AreAllVersions at.old at.new × (texts ≡ map (kept_texts p at.old) t.attrs)
+-- the texts of a tag that was there, and that it stood at its place on an earlier view
+record WasTag (p : Program) (start : Start) (t : Tag) (at : Sides) (place : ℕ) (olds : List (List (List ℕ))) : Type 0 where
+  versions : AreVersions at.old at.new
+  texts : olds ≡ map (kept_texts p at.old) t.attrs
+  earlier : Any (IsEarlier start.views at.new place) start.olds
 
-tag_after : (p : Program) (tags : List (Option ℕ)) (tag : ℕ) (t : Tag) (old : Option ℕ) (texts : List (List (List ℕ))) (at : Sides) (s : State) → slice_get p.tags tag ≡ Some t → Each (IsWithin p) (of_attrs t.attrs) →
-    WasTag p t at old texts → After (tag_by p tag t old texts at s) (Tagged p tags tag at.new s)
-tag_after p tags tag t None texts at s is fits was =
+tag_after : (p : Program) (start : Start) (tags : List (Option ℕ)) (tag : ℕ) (t : Tag) (old : Option ℕ) (texts : List (List (List ℕ))) (at : Sides) (s : State) → slice_get p.tags tag ≡ Some t →
+    Each (IsWithin p) (of_attrs t.attrs) → start.next ≤ s.counters.next → ((place : ℕ) → old ≡ Some place → WasTag p start t at place texts) →
+    After (tag_by p tag t old texts at s) (Tagged p start tags tag at.new s)
+tag_after p start tags tag t None texts at s is fits since was =
     then_after (offers_step p t.attrs [] true at s) (λ offers v. create_step tag (props_given (props_at (component_at p t.file)) offers) (texts_of offers) at v)
-    (λ offers u. (texts_of offers ≡ map (kept_texts p at.new) t.attrs) × Grows s u) (Tagged p tags tag at.new s) (offers_after p t.attrs [] true at s fits (inl (refl, refl)))
-    (λ offers v h. (tagged p tags tag v.counters.next t (texts_of offers) at.new (v.counters.next + 1) is h.0, omega (arith, h.1)))
-tag_after p tags tag t (Some place) texts at s is fits was =
+    (λ offers u. (texts_of offers ≡ map (kept_texts p at.new) t.attrs) × Grows s u) (Tagged p start tags tag at.new s) (offers_after p t.attrs [] true at s fits (inl (refl, refl)))
+    (λ offers v h. (tagged p start tags tag v.counters.next t (texts_of offers) at.new (v.counters.next + 1) is h.0 (inl (omega (arith, since, h.1))), omega (arith, h.1)))
+tag_after p start tags tag t (Some place) texts at s is fits since was =
     then_after (offers_step p t.attrs texts false at s)
     (λ offers v. andThen (keep_step place (props_given (props_at (component_at p t.file)) offers) (view_for p t at) at v) (λ _ u. Ok (shape.Tag place (texts_of offers), u)))
-    (λ offers u. (texts_of offers ≡ map (kept_texts p at.new) t.attrs) × Grows s u) (Tagged p tags tag at.new s) (offers_after p t.attrs texts false at s fits (inr (was place refl)))
-    (λ offers v h. then_after (keep_step place (props_given (props_at (component_at p t.file)) offers) (view_for p t at) at v) (λ _ u. Ok (shape.Tag place (texts_of offers), u)) (Up v) (Tagged p tags tag at.new s)
+    (λ offers u. (texts_of offers ≡ map (kept_texts p at.new) t.attrs) × Grows s u) (Tagged p start tags tag at.new s)
+    (offers_after p t.attrs texts false at s fits (inr ((was place refl).versions, (was place refl).texts)))
+    (λ offers v h. then_after (keep_step place (props_given (props_at (component_at p t.file)) offers) (view_for p t at) at v) (λ _ u. Ok (shape.Tag place (texts_of offers), u)) (Up v) (Tagged p start tags tag at.new s)
     (keep_up place (props_given (props_at (component_at p t.file)) offers) (view_for p t at) at v)
-    (λ _ u g. (tagged p tags tag place t (texts_of offers) at.new u.counters.next is h.0, grows_on s v u h.1 g)))
+    (λ _ u g. (tagged p start tags tag place t (texts_of offers) at.new u.counters.next is h.0 (inr (was place refl).earlier), grows_on s v u h.1 g)))
 
-was_tag : (p : Program) (tags : List (Option ℕ)) (tag : ℕ) (t : Tag) (at : Sides) (k : ℕ) (held : Opened) → slice_get p.tags tag ≡ Some t → WasLayer p (tag_layer tags tag) at k held →
-    WasTag p t at (place_in held) (texts_in held)
-was_tag p tags tag t at k None is was place e = absurd (cc)
-was_tag p tags tag t at k (Some o) is was place e = (was.0, (subst (λ z. IsTagTrue p at.old z (Some o)) is was.1.right.0).1)
+-- where something is so of a claim that is among some, it is so of one of them
+among : (Q : Claim → Type 0) (c : Claim) (claims : List Claim) → Q c → Any (λ d. d ≡ c) claims → Any Q claims
+among Q c [] h k = absurd k
+among Q c (d ∷ claims) h (inl e) = inl (subst Q (sym e) h)
+among Q c (d ∷ claims) h (inr k) = inr (among Q c claims h k)
 
-pub tag_stays : (p : Program) (tags : List (Option ℕ)) (tag : ℕ) → ((t : Tag) → slice_get p.tags tag ≡ Some t → Each (IsWithin p) (of_attrs t.attrs)) →
-    StaysLayer p (λ at held s. tag_step p tag (place_in held) (texts_in held) at s) (tag_layer tags tag)
-tag_stays p tags tag fits at held s was = by (slice_get p.tags tag) refl
+was_tag : (p : Program) (start : Start) (tags : List (Option ℕ)) (tag : ℕ) (t : Tag) (at : Sides) (k : ℕ) (held : Opened) → slice_get p.tags tag ≡ Some t → WasLayer p start (tag_layer tags tag) at k held →
+    (place : ℕ) → place_in held ≡ Some place → WasTag p start t at place (texts_in held)
+was_tag p start tags tag t at k None is was place e = absurd (cc)
+was_tag p start tags tag t at k (Some o) is was place e = record {
+  versions = was.1.0.own.versions;
+  texts = (subst (λ z. IsTagTrue p at.old z (Some o)) is was.1.1.right.0.0).1;
+  earlier = among (IsEarlier start.views at.new place) (OfTag tags tag at.old (Some o)) start.olds (e, was.1.0) was.1.1.right.0.1;
+}
+
+pub tag_stays : (p : Program) (start : Start) (tags : List (Option ℕ)) (tag : ℕ) → ((t : Tag) → slice_get p.tags tag ≡ Some t → Each (IsWithin p) (of_attrs t.attrs)) →
+    StaysLayer p start (λ at held s. tag_step p tag (place_in held) (texts_in held) at s) (tag_layer tags tag)
+tag_stays p start tags tag fits at held s was = by (slice_get p.tags tag) refl
   where
-    by : (o : Option Tag) → slice_get p.tags tag ≡ o → After (tag_over p tag o (place_in held) (texts_in held) at s) (Tagged p tags tag at.new s)
+    by : (o : Option Tag) → slice_get p.tags tag ≡ o → After (tag_over p tag o (place_in held) (texts_in held) at s) (Tagged p start tags tag at.new s)
     by None is = (
-      made p (tag_layer tags tag) at.new s.counters.next shape.Nothing Shape-F.Nothing shape.outs-Nothing (record { right = (subst (λ o. IsTagTrue p at.new o (Some Shape-F.Nothing)) (sym is) refl, tt); below = tt }),
+      made p start (tag_layer tags tag) at.new s.counters.next shape.Nothing Shape-F.Nothing shape.outs-Nothing
+          (record { right = ((subst (λ o. IsTagTrue p at.new o (Some Shape-F.Nothing)) (sym is) refl, tt), tt); below = tt }),
       grows_same s,
     )
-    by (Some t) is = tag_after p tags tag t (place_in held) (texts_in held) at s is (fits t is) (was_tag p tags tag t at s.counters.next held is was)
+    by (Some t) is = tag_after p start tags tag t (place_in held) (texts_in held) at s is (fits t is) was.0 (was_tag p start tags tag t at s.counters.next held is was)

@@ -13,6 +13,7 @@ use Rattle.sv_code.specs.declared.fragments.FragValuePart.{FragValuePart}
 use Rattle.sv_code.specs.declared.fragments.FragValuePart.TheVariants as piece
 use Rattle.sv_code.specs.declared.program.Program.{Program}
 use Rattle.sv_fresh.specs.Values.{piece_text, texts_after, texts_at}
+use Rattle.sv_local.specs.Versions.{AreVersions}
 use Rattle.sv_ops.specs.Answer.{within}
 use Rattle.sv_ops.specs.Texts.{between}
 use Rattle.sv_parts.specs.Sides.{Sides}
@@ -23,7 +24,6 @@ use Rattle.sv_parts.specs.declared.values.Valued.{Valued}
 use Rattle.sv_right.proofs.Lists.{Along, Matched, along_shift, along_both, along_unshift, plain_after, some_same}
 use Rattle.sv_right.proofs.Steps.{After, then_after, if_after, Grows, grows_same, grows_on}
 use Rattle.sv_right.proofs.Values.{text_step_after, still_value}
-use Rattle.sv_right.specs.Views.{AreAllVersions}
 use Rattle.sv_value.specs.Value.{Val, text, depth, size}
 use Rattle.sv_value.specs.Words.{text_of}
 use Rattle.sv_view.specs.Level.{View}
@@ -78,17 +78,17 @@ literal_there p v (piece.Show part ∷ parts) passed h e = absurd (cc)
 
 -- texts of which none was kept, or those that the parts gave on the old view
 abbrev pub WereTexts : Program → List FragValuePart → Sides → List (List ℕ) → Type 0
-WereTexts p parts at olds = (olds ≡ []) ⊎ (AreAllVersions at.old at.new × ArePieces p at.old 0 parts olds)
+WereTexts p parts at olds = (olds ≡ []) ⊎ (AreVersions at.old at.new × ArePieces p at.old 0 parts olds)
 
 -- what is kept of the part with a number is its text on the old view
 abbrev WasPiece : Program → Sides → List (List ℕ) → FragValuePart → ℕ → Type 0
-WasPiece p at olds x i = (t : List ℕ) → slice_get olds i ≡ Some t → AreAllVersions at.old at.new × (piece_text p at.old x ≡ Some t)
+WasPiece p at olds x i = (t : List ℕ) → slice_get olds i ≡ Some t → AreVersions at.old at.new × (piece_text p at.old x ≡ Some t)
 
 no_pieces : (p : Program) (at : Sides) (i : ℕ) (parts : List FragValuePart) → Along (WasPiece p at []) i parts
 no_pieces p at i [] = tt
 no_pieces p at i (x ∷ parts) = ((λ t e. absurd (cc)), no_pieces p at (suc i) parts)
 
-old_pieces : (p : Program) (at : Sides) (k : ℕ) (parts : List FragValuePart) (olds : List (List ℕ)) → AreAllVersions at.old at.new → ArePieces p at.old k parts olds → Along (WasPiece p at olds) 0 parts
+old_pieces : (p : Program) (at : Sides) (k : ℕ) (parts : List FragValuePart) (olds : List (List ℕ)) → AreVersions at.old at.new → ArePieces p at.old k parts olds → Along (WasPiece p at olds) 0 parts
 old_pieces p at k [] olds all h = tt
 old_pieces p at k (x ∷ parts) [] all h = absurd h
 old_pieces p at k (x ∷ parts) (t ∷ olds) all h =
@@ -105,7 +105,7 @@ abbrev pub PiecesWithin : Program → List FragValuePart → Type 0
 PiecesWithin p parts = Along (λ x i. Each (IsWithin p) (of_value_part x)) 0 parts
 
 piece_after : (p : Program) (at : Sides) (x : FragValuePart) (held : Option (List ℕ)) (s : State) → Each (IsWithin p) (of_value_part x) →
-    ((t : List ℕ) → held ≡ Some t → AreAllVersions at.old at.new × (piece_text p at.old x ≡ Some t)) → After (part_text p at x held s) (λ t u. (piece_text p at.new x ≡ Some t) × Grows s u)
+    ((t : List ℕ) → held ≡ Some t → AreVersions at.old at.new × (piece_text p at.old x ≡ Some t)) → After (part_text p at x held s) (λ t u. (piece_text p at.new x ≡ Some t) × Grows s u)
 piece_after p at (piece.Text t) held s within was = (refl, grows_same s)
 piece_after p at (piece.Show part) held s within was = text_step_after p part held at s within.0 was
 
@@ -167,12 +167,12 @@ not_due at olds i [] e = tt
 not_due at olds i (x ∷ parts) e =
     (or_left (part_due at x (slice_get olds i)) (due_from at olds (suc i) parts) e, not_due at olds (suc i) parts (or_right (part_due at x (slice_get olds i)) (due_from at olds (suc i) parts) e))
 
-still_piece : (p : Program) (at : Sides) (x : FragValuePart) (t : List ℕ) → Each (IsWithin p) (of_value_part x) → AreAllVersions at.old at.new → part_due at x (Some t) ≡ false →
+still_piece : (p : Program) (at : Sides) (x : FragValuePart) (t : List ℕ) → Each (IsWithin p) (of_value_part x) → AreVersions at.old at.new → part_due at x (Some t) ≡ false →
     piece_text p at.old x ≡ Some t → piece_text p at.new x ≡ Some t
 still_piece p at (piece.Text u) t within all due h = h
 still_piece p at (piece.Show part) t within all due h = ap (option_and_then text_of) (sym (still_value p part at within.0 all due)) ∙ h
 
-still_pieces : (p : Program) (at : Sides) (k : ℕ) (parts : List FragValuePart) (olds : List (List ℕ)) → PiecesWithin p parts → AreAllVersions at.old at.new →
+still_pieces : (p : Program) (at : Sides) (k : ℕ) (parts : List FragValuePart) (olds : List (List ℕ)) → PiecesWithin p parts → AreVersions at.old at.new →
     Along (λ x j. part_due at x (slice_get olds j) ≡ false) 0 parts → ArePieces p at.old k parts olds → ArePieces p at.new k parts olds
 still_pieces p at k [] [] within all due h = tt
 still_pieces p at k [] (t ∷ olds) within all due h = h
@@ -191,7 +191,7 @@ none_due at i (piece.Show part ∷ parts) e = absurd (cc)
 
 -- no text is kept, and some is wanted or there is an expression; or those are kept that the parts gave on the old view
 abbrev pub WereKept : Program → List FragValuePart → Sides → Bool → List (List ℕ) → Type 0
-WereKept p parts at wanted olds = ((olds ≡ []) × (wanted ≡ false → is_literal parts ≡ true → ⊥)) ⊎ (AreAllVersions at.old at.new × ArePieces p at.old 0 parts olds)
+WereKept p parts at wanted olds = ((olds ≡ []) × (wanted ≡ false → is_literal parts ≡ true → ⊥)) ⊎ (AreVersions at.old at.new × ArePieces p at.old 0 parts olds)
 
 were_texts : (p : Program) (parts : List FragValuePart) (at : Sides) (wanted : Bool) (olds : List (List ℕ)) → WereKept p parts at wanted olds → WereTexts p parts at olds
 were_texts p parts at wanted olds (inl h) = inl h.0

@@ -6,13 +6,13 @@ use Rattle.sv_code.specs.declared.parts.Part.{Part}
 use Rattle.sv_code.specs.declared.program.Program.{Program}
 use Rattle.sv_fresh.specs.Values.{value_at, text_at}
 use Rattle.sv_local.proofs.Parts.{by_versions}
+use Rattle.sv_local.specs.Versions.{AreVersions}
 use Rattle.sv_meaning.specs.Parts.{part_value}
 use Rattle.sv_ops.specs.declared.faults.Fault.{Fault}
 use Rattle.sv_parts.specs.Parts.{evaluated, valued, given_text, text_of_part, text_step}
 use Rattle.sv_parts.specs.Sides.{Sides, moved}
 use Rattle.sv_parts.specs.declared.state.State.{State}
 use Rattle.sv_right.proofs.Steps.{After, then_after, more_after, renewed_after, Grows, grows_same, grows_on}
-use Rattle.sv_right.specs.Views.{AreAllVersions}
 use Rattle.sv_value.specs.Value.{Val}
 use Rattle.sv_value.specs.Words.{text_of}
 use Rattle.sv_view.specs.Level.{View}
@@ -30,9 +30,9 @@ unfolding value_at
 evaluated_after p part at s = valued_after (part_value p at.new part) s
 
 -- a part of which nothing moved has the value that it had
-pub still_value : (p : Program) (part : Part) (at : Sides) → IsWithin p part → AreAllVersions at.old at.new → moved part.reads at ≡ false → value_at p at.old part ≡ value_at p at.new part
+pub still_value : (p : Program) (part : Part) (at : Sides) → IsWithin p part → AreVersions at.old at.new → moved part.reads at ≡ false → value_at p at.old part ≡ value_at p at.new part
 unfolding value_at moved
-still_value p part at within all still = ap result_ok (by_versions p part at.old at.new within all.own still)
+still_value p part at within all still = ap result_ok (by_versions p part at.old at.new within all still)
 
 -- ---- texts
 
@@ -52,7 +52,7 @@ text_after p part at s =
 
 -- what is held of a part is what it gave on the old view, whose versions tell its values from those on the new one
 abbrev pub WasText : Program → Part → Sides → Option (List ℕ) → Type 0
-WasText p part at held = (text : List ℕ) → held ≡ Some text → AreAllVersions at.old at.new × (text_at p at.old part ≡ Some text)
+WasText p part at held = (text : List ℕ) → held ≡ Some text → AreVersions at.old at.new × (text_at p at.old part ≡ Some text)
 
 pub text_step_after : (p : Program) (part : Part) (held : Option (List ℕ)) (at : Sides) (s : State) → IsWithin p part → WasText p part at held → After (text_step p part held at s) (Texted p part at.new s)
 text_step_after p part held at s within was =

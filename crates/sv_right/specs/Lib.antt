@@ -1,6 +1,6 @@
 pub mod Claims
 pub mod Right
-pub mod Views
+pub mod Later
 pub mod Given
 pub mod Fits
 pub mod Staying

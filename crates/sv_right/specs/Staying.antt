@@ -5,10 +5,12 @@ use Rattle.sv_code.specs.declared.program.Program.{Program}
 use Rattle.sv_parts.specs.Sides.{Sides}
 use Rattle.sv_parts.specs.declared.state.State.{State}
 use Rattle.sv_plan.specs.Plan.{plan_all}
+use Rattle.sv_code.specs.Names.{Each}
+use Rattle.sv_right.specs.Claims.{claims}
 use Rattle.sv_right.specs.Fits.{Fits, AllFit}
 use Rattle.sv_right.specs.Given.{AreBelow}
+use Rattle.sv_right.specs.Later.{ViewCells, AreAllLater, GoesOn}
 use Rattle.sv_right.specs.Right.{AreRight}
-use Rattle.sv_right.specs.Views.{AreAllVersions}
 use Rattle.sv_shapes.specs.Typed.{laid_all}
 use Rattle.sv_shapes.specs.declared.shape.Shape.{Shape}
 use Rattle.sv_tokens.specs.declared.element.Typed.{Typed}
@@ -24,11 +26,17 @@ abbrev pub FirstIsRight : Type 0
 FirstIsRight = (p : Program) (tags : List (Option ℕ)) (frags : List Frag) (at : Sides) (shapes : List Shape) (s s' : State) → AllFit p → Fits p frags →
     plan_all p tags frags at [] s ≡ Ok (shapes, s') → Stands p tags frags at.new s'.counters.next shapes
 
--- what is planned is right on the new view where what was shown was right on the old one, and equal versions mean equal values
+-- what is planned is right on the new view where what was shown was right on the old one, of which the new one is later
 abbrev pub PatchesStayRight : Type 0
-PatchesStayRight = (p : Program) (tags : List (Option ℕ)) (frags : List Frag) (at : Sides) (olds shapes : List Shape) (s s' : State) → AllFit p → Fits p frags →
-    AreAllVersions at.old at.new → Stands p tags frags at.old s.counters.next olds → plan_all p tags frags at olds s ≡ Ok (shapes, s') →
+PatchesStayRight = (p : Program) (views : ViewCells) (tags : List (Option ℕ)) (frags : List Frag) (at : Sides) (olds shapes : List Shape) (s s' : State) → AllFit p → Fits p frags →
+    AreAllLater views at.old at.new → Stands p tags frags at.old s.counters.next olds → plan_all p tags frags at olds s ≡ Ok (shapes, s') →
     Stands p tags frags at.new s'.counters.next shapes
+
+-- and each component tag stands at a new place, or where it stood, on a later view
+abbrev pub TagsGoOn : Type 0
+TagsGoOn = (p : Program) (views : ViewCells) (tags : List (Option ℕ)) (frags : List Frag) (at : Sides) (olds shapes : List Shape) (s s' : State) → AllFit p → Fits p frags →
+    AreAllLater views at.old at.new → Stands p tags frags at.old s.counters.next olds → plan_all p tags frags at olds s ≡ Ok (shapes, s') →
+    Each (GoesOn views s.counters.next (claims p tags frags at.old olds)) (claims p tags frags at.new shapes)
 
 -- a state that a user leaves in an element changes nothing of that
 abbrev pub LeavingStaysRight : Type 0

@@ -11,7 +11,8 @@ use Rattle.sv_parts.specs.declared.state.State.{State}
 use Rattle.sv_places.proofs.Changes.{Quiet}
 use Rattle.sv_places.proofs.Quiet.{quiet-same}
 use Rattle.sv_stands.specs.Holds.{Hold}
-use Rattle.sv_stands.specs.Lent.{Any, Makes, Lends, Keeps, StaysLent, GoesOn, IsLent, IsMade, IsFor, IsKept, AreLent, PlanLends, PlanMakes}
+use Rattle.sv_places.specs.Any.{Any}
+use Rattle.sv_stands.specs.Lent.{Makes, Lends, Keeps, StaysLent, GoesOn, IsLent, IsMade, IsFor, IsKept, AreLent, PlanLends, PlanMakes}
 
 -- ---- facts of one of some things
 

@@ -57,33 +57,40 @@ outward_over (suc depth) own (l ∷ owners) modules locals more = refl
 pub owners_over : (p : Program) (frags : List Frag) (tags : List (Option ℕ)) (v w : View) → Over v w → OwnersFor p frags tags v.owners → OwnersFor p frags tags w.owners
 owners_over p frags tags v w o h = subst (λ (z : View). OwnersFor p frags tags z.owners) (sym o.is) h
 
-stands_locals : (p : Program) (tags : List (Option ℕ)) (v : View) (locals : List Local) (h : Hold) → StandsOn p tags (with_locals v locals) h → StandsOn p tags v h
-stands_locals p tags v locals h k = record { depth = k.depth; tags_are = k.tags_are; insts_are = k.insts_are; view_is = k.view_is ∙ outward_over k.depth v.own v.owners v.modules locals h.view.own.locals; owners = k.owners }
+stands_locals : (p : Program) (frags : List Frag) (tags : List (Option ℕ)) (v : View) (locals : List Local) (h : Hold) → StandsOn p frags tags (with_locals v locals) h → StandsOn p frags tags v h
+stands_locals p frags tags v locals h k = record {
+  depth = k.depth;
+  tags_are = k.tags_are;
+  insts_are = k.insts_are;
+  view_is = k.view_is ∙ outward_over k.depth v.own v.owners v.modules locals h.view.own.locals;
+  within = k.within;
+  owners = k.owners;
+}
 
-pub stand_over : (p : Program) (tags : List (Option ℕ)) (v w : View) → Over v w → (hs : List Hold) → Each (StandsOn p tags w) hs → Each (StandsOn p tags v) hs
-stand_over p tags v w o hs k = each_mono (StandsOn p tags (with_locals v o.locals)) (StandsOn p tags v) (λ h q. stands_locals p tags v o.locals h q) hs (subst (λ z. Each (StandsOn p tags z) hs) o.is k)
+pub stand_over : (p : Program) (frags : List Frag) (tags : List (Option ℕ)) (v w : View) → Over v w → (hs : List Hold) → Each (StandsOn p frags tags w) hs → Each (StandsOn p frags tags v) hs
+stand_over p frags tags v w o hs k = each_mono (StandsOn p frags tags (with_locals v o.locals)) (StandsOn p frags tags v) (λ h q. stands_locals p frags tags v o.locals h q) hs (subst (λ z. Each (StandsOn p frags tags z) hs) o.is k)
 
 -- ---- what stands on the view of an owner
 
-module _ (p : Program) (tag : Option ℕ) (tags : List (Option ℕ)) (own l : Level) (owners : List Level) (modules : List (List (Option Val))) where
+module _ (p : Program) (frags : List Frag) (tag : ℕ) (tags : List (Option ℕ)) (own l : Level) (owners : List Level) (modules : List (List (Option Val))) where
   abbrev inner : View
   inner = record { own = own; owners = l ∷ owners; modules = modules }
 
-  stands_outer : (h : Hold) → StandsOn p tags (outer inner) h → StandsOn p (tag ∷ tags) inner h
-  stands_outer h k = record { depth = suc k.depth; tags_are = k.tags_are; insts_are = k.insts_are; view_is = k.view_is; owners = k.owners }
+  stands_outer : (h : Hold) → StandsOn p (content_in p tag) tags (outer inner) h → StandsOn p frags (Some tag ∷ tags) inner h
+  stands_outer h k = record { depth = suc k.depth; tags_are = k.tags_are; insts_are = k.insts_are; view_is = k.view_is; within = k.within; owners = k.owners }
 
-  pub stand_outer : (hs : List Hold) → Each (StandsOn p tags (outer inner)) hs → Each (StandsOn p (tag ∷ tags) inner) hs
-  stand_outer hs k = each_mono (StandsOn p tags (outer inner)) (StandsOn p (tag ∷ tags) inner) (λ h q. stands_outer h q) hs k
+  pub stand_outer : (hs : List Hold) → Each (StandsOn p (content_in p tag) tags (outer inner)) hs → Each (StandsOn p frags (Some tag ∷ tags) inner) hs
+  stand_outer hs k = each_mono (StandsOn p (content_in p tag) tags (outer inner)) (StandsOn p frags (Some tag ∷ tags) inner) (λ h q. stands_outer h q) hs k
 
 -- content stands on the owner's view, where a slot shows it
 pub content_stands : (p : Program) (frags : List Frag) (k : ℕ) (tags : List (Option ℕ)) (lets : List LetName) (props : List SlotProp) (own : Level) (owners : List Level) (modules : List (List (Option Val))) (hold : View → List Hold) →
-    ((w : View) → OwnersFor p (content_in p k) tags w.owners → Each (StandsOn p tags w) (hold w)) → HasSlot p frags → OwnersFor p frags (Some k ∷ tags) owners →
-    Each (StandsOn p (Some k ∷ tags) (record { own = own; owners = owners; modules = modules })) (hold (content_view lets props (record { own = own; owners = owners; modules = modules })))
+    ((w : View) → OwnersFor p (content_in p k) tags w.owners → Each (StandsOn p (content_in p k) tags w) (hold w)) → HasSlot p frags → OwnersFor p frags (Some k ∷ tags) owners →
+    Each (StandsOn p frags (Some k ∷ tags) (record { own = own; owners = owners; modules = modules })) (hold (content_view lets props (record { own = own; owners = owners; modules = modules })))
 unfolding content_view
 content_stands p frags k tags lets props own [] modules hold stand s h = elim (h s) [ ]
 content_stands p frags k tags lets props own (l ∷ owners) modules hold stand s h =
-    stand_outer p (Some k) tags own l owners modules _
-    (stand_over p tags (record { own = l; owners = owners; modules = modules }) _ o _ (stand _ (owners_over p (content_in p k) tags (record { own = l; owners = owners; modules = modules }) _ o (h s))))
+    stand_outer p frags k tags own l owners modules _
+    (stand_over p (content_in p k) tags (record { own = l; owners = owners; modules = modules }) _ o _ (stand _ (owners_over p (content_in p k) tags (record { own = l; owners = owners; modules = modules }) _ o (h s))))
   where
     o : Over (record { own = l; owners = owners; modules = modules }) (with_lets lets props (record { own = l; owners = owners; modules = modules }))
     o = lets_over lets props (record { own = l; owners = owners; modules = modules })

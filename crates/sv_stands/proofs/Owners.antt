@@ -1,12 +1,12 @@
--- What looks in markup needs owners where it does in the whole, and so does what a tag gives to the slots of its component.
+-- What looks in the content that a tag gives to the slots of its component looks in that of the tag; and owners for some markup serve what stands in there.
 use Rattle.std.proofs.Common.{◌≡◌, ℕ, Bool, true, false, List, [], ◌∷◌, ◌++◌, Option, Some, None, refl, subst, ◌∙◌, inl, inr}
 use Rattle.std.specs.Option.{option_and_then}
-use Rattle.std.specs.Prelude.{slice_get, ◌&&◌, if◌then◌else◌, ⊤}
+use Rattle.std.specs.Prelude.{slice_get, ◌&&◌, if◌then◌else◌}
 use Rattle.std.specs.Str.{bytes_eq}
 use Rattle.sv_base.specs.declared.names.Name.{Name}
 use Rattle.sv_code.proofs.Each.{each_append, each_back, each_front}
 use Rattle.sv_code.specs.Content as looks
-use Rattle.sv_code.specs.Content.{Look, Looker, ByPart, ByHandler, ByTag, BySlot, Looks, Node, of_frags, let_names}
+use Rattle.sv_code.specs.Content.{Look, ByTag, BySlot, Looks, Node, of_frags, let_names}
 use Rattle.sv_code.specs.Names.{Each}
 use Rattle.sv_code.specs.declared.fragments.Frag.{Frag, Frag-F, out-Frag, map-Frag, fold_out-Frag}
 use Rattle.sv_code.specs.declared.fragments.FragArm.{FragArm}
@@ -15,7 +15,7 @@ use Rattle.sv_code.specs.declared.tags.Tag.{Tag}
 use Rattle.sv_plan.specs.Content as plan
 use Rattle.sv_plan.specs.Content.{Content, Opened, content_at, content_named, named_as, or_else, is_empty, has_default}
 use Rattle.sv_stands.proofs.Lending.{Within, within_same}
-use Rattle.sv_stands.specs.Lent.{Any}
+use Rattle.sv_places.specs.Any.{Any}
 use Rattle.sv_stands.specs.Standing.{HasSlot, here, inside, content_of, content_in, OwnersFor}
 use Rattle.sv_view.specs.Level.{Level}
 
@@ -68,19 +68,20 @@ module _ (Q : Look → Type 0) where
       by true q = subst IsSo (some_same q) (record { bound = []; each = h })
       by false q = content_so name t.content c h q
 
+-- ---- what looks in markup
+
+-- what looks is what looks somewhere in some markup, whatever names are round it there
+abbrev pub Among : List Frag → Look → Type 0
+Among whole look = Any (λ other. other.by ≡ look.by) (of_frags whole [])
+
+looks_among : (whole : List Frag) (list : List Look) → Within list (of_frags whole []) → Each (Among whole) list
+looks_among whole [] h = tt
+looks_among whole (x ∷ list) h = (h.into (λ other. other.by ≡ x.by) (inl refl), looks_among whole list (record { into = λ Q q. h.into Q (inr q) }))
+
+pub all_among : (whole : List Frag) → Each (Among whole) (of_frags whole [])
+all_among whole = looks_among whole (of_frags whole []) (within_same (of_frags whole []))
+
 module _ (p : Program) where
-  -- ---- what looks in markup
-
-  -- where something looks that is a slot, the markup has one; where it is a tag with a slot in its content, so too
-  abbrev pub AmongBy : List Frag → Looker → Type 0
-  AmongBy whole ByPart = ⊤
-  AmongBy whole (ByHandler n) = ⊤
-  AmongBy whole (ByTag k) = HasSlot p (content_in p k) → HasSlot p whole
-  AmongBy whole BySlot = HasSlot p whole
-
-  abbrev pub Among : List Frag → Look → Type 0
-  Among whole look = AmongBy whole look.by
-
   slot_by : {G : Type 0} (frags : List Frag) → HasSlot p frags → (Any (λ look. look.by ≡ BySlot) (of_frags frags []) → G) →
       ((k : ℕ) (t : Tag) → Any (λ look. look.by ≡ ByTag k) (of_frags frags []) → slice_get p.tags k ≡ Some t → HasSlot p t.content → G) → G
   slot_by frags (here _ q) f g = f q
@@ -89,25 +90,13 @@ module _ (p : Program) where
   no_slot : HasSlot p [] → ⊥
   no_slot s = slot_by [] s (λ q. q) (λ k t q is r. q)
 
-  tag_has : (whole : List Frag) (k : ℕ) → Any (λ look. look.by ≡ ByTag k) (of_frags whole []) → HasSlot p (content_in p k) → HasSlot p whole
+  -- where a tag stands in some markup, and a slot in the content of the tag, the markup has one
+  pub tag_has : (whole : List Frag) (k : ℕ) → Any (λ look. look.by ≡ ByTag k) (of_frags whole []) → HasSlot p (content_in p k) → HasSlot p whole
   tag_has whole k q s = by (slice_get p.tags k) refl s
     where
       by : (o : Option Tag) → slice_get p.tags k ≡ o → HasSlot p (content_of o) → HasSlot p whole
       by None is r = absurd (no_slot r)
       by (Some t) is r = inside whole k t q is r
-
-  looker_among : (whole : List Frag) (by : Looker) → Any (λ look. look.by ≡ by) (of_frags whole []) → AmongBy whole by
-  looker_among whole ByPart q = tt
-  looker_among whole (ByHandler n) q = tt
-  looker_among whole (ByTag k) q = tag_has whole k q
-  looker_among whole BySlot q = here whole q
-
-  looks_among : (whole : List Frag) (list : List Look) → Within list (of_frags whole []) → Each (Among whole) list
-  looks_among whole [] h = tt
-  looks_among whole (x ∷ list) h = (looker_among whole x.by (h.into (λ look. look.by ≡ x.by) (inl refl)), looks_among whole list (record { into = λ Q q. h.into Q (inr q) }))
-
-  pub all_among : (whole : List Frag) → Each (Among whole) (of_frags whole [])
-  all_among whole = looks_among whole (of_frags whole []) (within_same (of_frags whole []))
 
   -- what looks in the content that a tag gives to a slot is in the content of the tag
   pub given_among : (k : ℕ) (tags : List (Option ℕ)) (name : List ℕ) (c : Content) → content_at p (Some k ∷ tags) name ≡ Some c → IsSo (Among (content_in p k)) c

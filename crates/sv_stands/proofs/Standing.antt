@@ -12,6 +12,7 @@ use Rattle.sv_code.specs.declared.fragments.FragAttr.{FragAttr}
 use Rattle.sv_code.specs.declared.parts.Part.{Part}
 use Rattle.sv_code.specs.declared.parts.Reading.{Reading}
 use Rattle.sv_code.specs.declared.program.Program.{Program}
+use Rattle.sv_places.specs.Any.{Any}
 use Rattle.sv_plan.specs.Content.{Content, content_at}
 use Rattle.sv_plan.specs.Lists.{Head, row_view}
 use Rattle.sv_plan.specs.Plan.{body_at, head}
@@ -20,29 +21,29 @@ use Rattle.sv_shapes.specs.declared.shape.Row.{Row}
 use Rattle.sv_shapes.specs.declared.shape.Shape.{Shape, Shape-F, out-Shape}
 use Rattle.sv_shapes.specs.declared.shape.SlotProp.{SlotProp}
 use Rattle.sv_stands.proofs.Outward.{row_over, owners_over, stand_over, content_stands}
-use Rattle.sv_stands.proofs.Owners.{Among, all_among, given_among, owners_fewer}
+use Rattle.sv_stands.proofs.Owners.{Among, all_among, given_among, owners_fewer, tag_has}
 use Rattle.sv_stands.proofs.Walks.{LayerHolder}
 use Rattle.sv_stands.specs.Holds.{Holder, AllHolder, ArmHolder, Filled, hold_each, rows_hold, slot_holds, layer_holds, arm_step, step, holder, walker, slotted, holds}
-use Rattle.sv_stands.specs.Standing.{HasSlot, OwnersFor, StandsOn, content_in}
+use Rattle.sv_stands.specs.Standing.{HasSlot, here, OwnersFor, StandsOn, content_in}
 use Rattle.sv_view.specs.Level.{View}
 
 module _ (p : Program) where
   module _ (whole : List Frag) (tags : List (Option ℕ)) where
     -- what a walk holds stands on the view, where there are owners for the whole markup
     record AllStand (hold : AllHolder) : Type 0 where
-      stand : (v : View) (shapes : List Shape) → OwnersFor p whole tags v.owners → Each (StandsOn p tags v) (hold v shapes)
+      stand : (v : View) (shapes : List Shape) → OwnersFor p whole tags v.owners → Each (StandsOn p whole tags v) (hold v shapes)
 
     record OneStands (hold : Holder) : Type 0 where
-      stand : (v : View) (x : Shape) → OwnersFor p whole tags v.owners → Each (StandsOn p tags v) (hold v x)
+      stand : (v : View) (x : Shape) → OwnersFor p whole tags v.owners → Each (StandsOn p whole tags v) (hold v x)
 
     -- the same of one layer
     record LayerStands (hold : LayerHolder) : Type 0 where
-      stand : (v : View) (y : Shape-F Shape Row) → OwnersFor p whole tags v.owners → Each (StandsOn p tags v) (hold v y)
+      stand : (v : View) (y : Shape-F Shape Row) → OwnersFor p whole tags v.owners → Each (StandsOn p whole tags v) (hold v y)
 
-    each_stand : (holds : List Holder) → Each OneStands holds → (v : View) (shapes : List Shape) → OwnersFor p whole tags v.owners → Each (StandsOn p tags v) (hold_each holds v shapes)
+    each_stand : (holds : List Holder) → Each OneStands holds → (v : View) (shapes : List Shape) → OwnersFor p whole tags v.owners → Each (StandsOn p whole tags v) (hold_each holds v shapes)
     each_stand holds q v [] h = tt
     each_stand [] q v (x ∷ shapes) h = tt
-    each_stand (hold ∷ holds) q v (x ∷ shapes) h = each_append (StandsOn p tags v) (hold v x) (hold_each holds v shapes) (q.0.stand v x h) (each_stand holds q.1 v shapes h)
+    each_stand (hold ∷ holds) q v (x ∷ shapes) h = each_append (StandsOn p whole tags v) (hold v x) (hold_each holds v shapes) (q.0.stand v x h) (each_stand holds q.1 v shapes h)
 
     all_stand : (holds : List Holder) → Each OneStands holds → AllStand (hold_each holds)
     all_stand holds q = record { stand = each_stand holds q }
@@ -52,11 +53,11 @@ module _ (p : Program) where
 
     -- ---- rows and slots
 
-    rows_stand : (h : Head) (hold : AllHolder) → AllStand hold → (n : ℕ) (v : View) (i : ℕ) (rows : List Row) → OwnersFor p whole tags v.owners → Each (StandsOn p tags v) (rows_hold h hold n v i rows)
+    rows_stand : (h : Head) (hold : AllHolder) → AllStand hold → (n : ℕ) (v : View) (i : ℕ) (rows : List Row) → OwnersFor p whole tags v.owners → Each (StandsOn p whole tags v) (rows_hold h hold n v i rows)
     rows_stand h hold k n v i [] o = tt
     rows_stand h hold k n v i (r ∷ rows) o =
-        each_append (StandsOn p tags v) (hold (row_view h n i r.item v) r.parts) (rows_hold h hold n v (suc i) rows)
-        (stand_over p tags v (row_view h n i r.item v) (row_over h n i r.item v) (hold (row_view h n i r.item v) r.parts)
+        each_append (StandsOn p whole tags v) (hold (row_view h n i r.item v) r.parts) (rows_hold h hold n v (suc i) rows)
+        (stand_over p whole tags v (row_view h n i r.item v) (row_over h n i r.item v) (hold (row_view h n i r.item v) r.parts)
         (k.stand (row_view h n i r.item v) r.parts (owners_over p whole tags v (row_view h n i r.item v) (row_over h n i r.item v) o)))
         (rows_stand h hold k n v (suc i) rows o)
 
@@ -86,40 +87,41 @@ module _ (p : Program) where
       -- ---- each form
 
       nothing_stands : (hold : LayerHolder) → ((v : View) (y : Shape-F Shape Row) → hold v y ≡ []) → LayerStands hold
-      nothing_stands hold none = record { stand = λ v y h. subst (Each (StandsOn p tags v)) (sym (none v y)) tt }
+      nothing_stands hold none = record { stand = λ v y h. subst (Each (StandsOn p whole tags v)) (sym (none v y)) tt }
 
-      tag_stands : (k : ℕ) (reads : Reading) → (HasSlot p (content_in p k) → HasSlot p whole) → FragStands (Frag-F.Tag k reads)
+      tag_stands : (k : ℕ) (reads : Reading) → Any (λ look. look.by ≡ looks.ByTag k) (looks.of_frags whole []) → FragStands (Frag-F.Tag k reads)
       tag_stands k reads q = record { stand = stand }
         where
-          stand : (v : View) (y : Shape-F Shape Row) → OwnersFor p whole tags v.owners → Each (StandsOn p tags v) (layer_holds tags shown (Frag-F.Tag k reads) v y)
-          stand v (Shape-F.Tag place texts) h = (record { depth = 0; tags_are = refl; insts_are = refl; view_is = refl; owners = owners_fewer p (content_in p k) whole q tags v.owners h }, tt)
+          stand : (v : View) (y : Shape-F Shape Row) → OwnersFor p whole tags v.owners → Each (StandsOn p whole tags v) (layer_holds tags shown (Frag-F.Tag k reads) v y)
+          stand v (Shape-F.Tag place texts) h =
+              (record { depth = 0; tags_are = refl; insts_are = refl; view_is = refl; within = q; owners = owners_fewer p (content_in p k) whole (tag_has p whole k q) tags v.owners h }, tt)
           stand v _ h = tt
 
       element_stands : (span : Span) (name : List ℕ) (attrs : List FragAttr) (children : List Holder) → AllStand (hold_each children) → FragStands (Frag-F.Element span name attrs children)
       element_stands span name attrs children k = record { stand = stand }
         where
-          stand : (v : View) (y : Shape-F Shape Row) → OwnersFor p whole tags v.owners → Each (StandsOn p tags v) (layer_holds tags shown (Frag-F.Element span name attrs children) v y)
+          stand : (v : View) (y : Shape-F Shape Row) → OwnersFor p whole tags v.owners → Each (StandsOn p whole tags v) (layer_holds tags shown (Frag-F.Element span name attrs children) v y)
           stand v (Shape-F.Element mark typed states parts) h = k.stand v parts h
           stand v _ h = tt
 
       key_stands : (part : Part) (body : List Holder) → AllStand (hold_each body) → FragStands (Frag-F.Key part body)
       key_stands part body k = record { stand = stand }
         where
-          stand : (v : View) (y : Shape-F Shape Row) → OwnersFor p whole tags v.owners → Each (StandsOn p tags v) (layer_holds tags shown (Frag-F.Key part body) v y)
+          stand : (v : View) (y : Shape-F Shape Row) → OwnersFor p whole tags v.owners → Each (StandsOn p whole tags v) (layer_holds tags shown (Frag-F.Key part body) v y)
           stand v (Shape-F.Key state parts) h = k.stand v parts h
           stand v _ h = tt
 
       slot_stands : (span : Span) (name : List ℕ) (attrs : List FragAttr) (own : List Holder) (reads : Reading) → HasSlot p whole → AllStand (hold_each own) → FragStands (Frag-F.Slot span name attrs own reads)
       slot_stands span name attrs own reads s k = record { stand = stand }
         where
-          stand : (v : View) (y : Shape-F Shape Row) → OwnersFor p whole tags v.owners → Each (StandsOn p tags v) (layer_holds tags shown (Frag-F.Slot span name attrs own reads) v y)
+          stand : (v : View) (y : Shape-F Shape Row) → OwnersFor p whole tags v.owners → Each (StandsOn p whole tags v) (layer_holds tags shown (Frag-F.Slot span name attrs own reads) v y)
           stand v (Shape-F.Slot props parts) h = (filled_stands (shown name) (filled name) s (hold_each own) k props).stand v parts h
           stand v _ h = tt
 
       if_stands : (arms : List ArmHolder) (last : Option (List Holder)) → ((i : ℕ) → AllStand (hold_each (body_at arms last i))) → FragStands (Frag-F.If arms last)
       if_stands arms last k = record { stand = stand }
         where
-          stand : (v : View) (y : Shape-F Shape Row) → OwnersFor p whole tags v.owners → Each (StandsOn p tags v) (layer_holds tags shown (Frag-F.If arms last) v y)
+          stand : (v : View) (y : Shape-F Shape Row) → OwnersFor p whole tags v.owners → Each (StandsOn p whole tags v) (layer_holds tags shown (Frag-F.If arms last) v y)
           stand v (Shape-F.If arm parts) h = (k arm).stand v parts h
           stand v _ h = tt
 
@@ -127,8 +129,8 @@ module _ (p : Program) where
           FragStands (Frag-F.Each list item index key body last)
       list_stands list item index key body last k l = record { stand = stand }
         where
-          stand : (v : View) (y : Shape-F Shape Row) → OwnersFor p whole tags v.owners → Each (StandsOn p tags v) (layer_holds tags shown (Frag-F.Each list item index key body last) v y)
-          stand v (Shape-F.Each number rows none) h = each_append (StandsOn p tags v) _ _ (rows_stand (head list item index key) (hold_each body) k number v 0 rows h) (l.stand v none h)
+          stand : (v : View) (y : Shape-F Shape Row) → OwnersFor p whole tags v.owners → Each (StandsOn p whole tags v) (layer_holds tags shown (Frag-F.Each list item index key body last) v y)
+          stand v (Shape-F.Each number rows none) h = each_append (StandsOn p whole tags v) _ _ (rows_stand (head list item index key) (hold_each body) k number v 0 rows h) (l.stand v none h)
           stand v _ h = tt
 
       -- ---- fragments, with what is known of each
@@ -141,7 +143,7 @@ module _ (p : Program) where
 
       -- what looks in there looks in the whole
       abbrev AreAmong : Looks → Type 0
-      AreAmong list = (bound : List Name) × Each (Among p whole) (list bound)
+      AreAmong list = (bound : List Name) × Each (Among whole) (list bound)
 
       abbrev IsFrag : Frag → Type 0
       IsFrag f = AreAmong (looks.node f).looks → OneStands (hold_of f)
@@ -166,10 +168,10 @@ module _ (p : Program) where
       nodes_of fs = looks.nodes (map looks.node fs)
 
       among_first : (xs ys : Looks) → AreAmong (looks.both xs ys) → AreAmong xs
-      among_first xs ys h = (h.0, each_front (Among p whole) (xs h.0) (ys h.0) h.1)
+      among_first xs ys h = (h.0, each_front (Among whole) (xs h.0) (ys h.0) h.1)
 
       among_second : (xs ys : Looks) → AreAmong (looks.both xs ys) → AreAmong ys
-      among_second xs ys h = (h.0, each_back (Among p whole) (xs h.0) (ys h.0) h.1)
+      among_second xs ys h = (h.0, each_back (Among whole) (xs h.0) (ys h.0) h.1)
 
       among_within : (names : List Name) (xs : Looks) → AreAmong (looks.within names xs) → AreAmong xs
       among_within names xs h = (names ++ h.0, h.1)
@@ -237,7 +239,7 @@ module _ (p : Program) where
       layers (Frag-F.Tag tag reads) h = tag_stands tag reads h.1.0
       layers (Frag-F.Named name lets node) h = nothing_stands _ (λ v y. refl)
       layers (Frag-F.Slot span name attrs own reads) h =
-          slot_stands span name attrs _ reads h.1.0 (known_stand own (among_second (looks.of_attrs attrs) (nodes_of (bare_frags own)) (h.0, h.1.1)))
+          slot_stands span name attrs _ reads (here whole h.1.0) (known_stand own (among_second (looks.of_attrs attrs) (nodes_of (bare_frags own)) (h.0, h.1.1)))
       layers (Frag-F.If arms None) h =
           let turns = looks.in_turn (map looks.of_arm (bare_arms arms)) in
           if_stands _ None (λ i. all_stand _ (body_stands _ (arms_stand arms (among_first turns looks.nothing h)) None tt i))
@@ -295,6 +297,6 @@ module _ (p : Program) where
           given_stands whole k tags _ (walker_stands (content_in p k) tags (slotted p tags) outer c.frags (so.bound, so.each)) c
 
 -- whole markup
-pub holds_stand : (p : Program) (tags : List (Option ℕ)) (frags : List Frag) (v : View) (shapes : List Shape) → OwnersFor p frags tags v.owners → Each (StandsOn p tags v) (holds p tags frags v shapes)
+pub holds_stand : (p : Program) (tags : List (Option ℕ)) (frags : List Frag) (v : View) (shapes : List Shape) → OwnersFor p frags tags v.owners → Each (StandsOn p frags tags v) (holds p tags frags v shapes)
 unfolding holds
-holds_stand p tags frags v shapes h = (walker_stands p frags tags (slotted p tags) (slotted_stands p frags tags) frags ([], all_among p frags)).stand v shapes h
+holds_stand p tags frags v shapes h = (walker_stands p frags tags (slotted p tags) (slotted_stands p frags tags) frags ([], all_among frags)).stand v shapes h

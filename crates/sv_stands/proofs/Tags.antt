@@ -18,7 +18,8 @@ use Rattle.sv_shapes.specs.declared.shape.Shape.{Shape}
 use Rattle.sv_shapes.specs.declared.shape.Shape.TheVariants as shape
 use Rattle.sv_stands.proofs.Lending.{quiet_silent, lent_after}
 use Rattle.sv_stands.specs.Holds.{Hold}
-use Rattle.sv_stands.specs.Lent.{Any, Lends, StaysLent, IsFor, PlanLends}
+use Rattle.sv_places.specs.Any.{Any}
+use Rattle.sv_stands.specs.Lent.{Lends, StaysLent, IsFor, PlanLends}
 use Rattle.sv_view.specs.Level.{View}
 
 module _ (p : Program) (tags : List (Option ℕ)) (k : ℕ) where

@@ -1,5 +1,6 @@
 -- The views that component tags lend to their children: what effects say of them, and where a child may stay with the view that it was lent.
-use Rattle.std.specs.Prelude.{◌≡◌, ◌⊎◌, ℕ, false, List, [], ◌∷◌, ◌++◌, Some, None, slice_get}
+use Rattle.std.specs.Prelude.{◌≡◌, ◌⊎◌, ℕ, false, List, ◌++◌, Some, None, slice_get}
+use Rattle.sv_places.specs.Any.{Any}
 use Rattle.sv_code.specs.Names.{Each}
 use Rattle.sv_code.specs.declared.program.Program.{Program}
 use Rattle.sv_code.specs.declared.tags.Tag.{Tag}
@@ -12,11 +13,6 @@ use Rattle.sv_parts.specs.declared.state.Kept.{Kept}
 use Rattle.sv_parts.specs.declared.state.State.{State}
 use Rattle.sv_stands.specs.Holds.{Hold}
 use Rattle.sv_view.specs.Level.{View}
-
--- a fact of one of some things
-abbrev pub Any : {A : Type 0} → (A → Type 0) → List A → Type 0
-Any Q [] = ⊥
-Any Q (x ∷ xs) = Q x ⊎ Any Q xs
 
 -- a child of the hold's tag is made at its place, on its view
 abbrev pub Makes : Hold → Effect → Type 0

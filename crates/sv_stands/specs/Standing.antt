@@ -7,7 +7,7 @@ use Rattle.sv_code.specs.declared.program.Program.{Program}
 use Rattle.sv_code.specs.declared.tags.Tag.{Tag}
 use Rattle.sv_plan.specs.Slots.{outer}
 use Rattle.sv_stands.specs.Holds.{Hold}
-use Rattle.sv_stands.specs.Lent.{Any}
+use Rattle.sv_places.specs.Any.{Any}
 use Rattle.sv_view.specs.Level.{Level, View}
 use Rattle.sv_view.specs.View.{insts, with_locals}
 
@@ -41,11 +41,19 @@ abbrev pub outward : ℕ → View → View
 outward zero v = v
 outward (suc n) v = outward n (outer v)
 
+-- the markup on the level so many owners further out: the content of the tag at which the instance on the level before it stands
+abbrev pub frags_at : Program → List Frag → List (Option ℕ) → ℕ → List Frag
+frags_at p frags tags zero = frags
+frags_at p frags [] (suc depth) = []
+frags_at p frags (None ∷ tags) (suc depth) = []
+frags_at p frags (Some k ∷ tags) (suc depth) = frags_at p (content_in p k) tags depth
+
 -- the hold's view is that of the instance, or of an owner so many levels further out, but for its row locals and slot props; so are its instances
--- and its tags; and there are owners for the content of its tag
-pub record StandsOn (p : Program) (tags : List (Option ℕ)) (v : View) (h : Hold) : Type 0 where
+-- and its tags; its tag stands in the markup on that level; and there are owners for the content of its tag
+pub record StandsOn (p : Program) (frags : List Frag) (tags : List (Option ℕ)) (v : View) (h : Hold) : Type 0 where
   pub depth : ℕ
   pub tags_are : h.tags ≡ drop depth tags
   pub insts_are : insts h.view ≡ drop depth (insts v)
   pub view_is : h.view ≡ with_locals (outward depth v) h.view.own.locals
+  pub within : Any (λ look. look.by ≡ ByTag h.tag) (of_frags (frags_at p frags tags depth) [])
   pub owners : OwnersFor p (content_in p h.tag) h.tags h.view.owners

@@ -40,10 +40,10 @@ pub fn each_place_is_held()
     ensures held { (p : Program) (tags : List (Option ℕ)) (frags : List Frag) (v : View) (shapes : List Shape) → Fits p tags frags shapes → map (λ h. h.place) (holds p tags frags v shapes) ≡ places_all shapes }
 {}
 
-/// Each tag stands on the view of the instance or of one of its owners, with its tags, where there are owners for what the markup shows of them; and
-/// there are owners for the content of the tag.
+/// Each tag stands on the view of the instance or of one of its owners, with its tags and in its markup, where there are owners for what the markup shows
+/// of them; and there are owners for the content of the tag.
 pub fn holds_stand_on_owners()
-    ensures stand { (p : Program) (tags : List (Option ℕ)) (frags : List Frag) (v : View) (shapes : List Shape) → OwnersFor p frags tags v.owners → Each (StandsOn p tags v) (holds p tags frags v shapes) }
+    ensures stand { (p : Program) (tags : List (Option ℕ)) (frags : List Frag) (v : View) (shapes : List Shape) → OwnersFor p frags tags v.owners → Each (StandsOn p frags tags v) (holds p tags frags v shapes) }
 {}
 
 /// A state that a user leaves changes no hold.
