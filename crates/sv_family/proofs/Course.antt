@@ -19,7 +19,7 @@ use Rattle.sv_parts.specs.declared.state.Given.{Given}
 use Rattle.sv_parts.specs.declared.tally.Tally.{Tally}
 use Rattle.sv_plan.specs.Patch.{After, patched}
 use Rattle.sv_shapes.specs.Showing.{Showing, child_at, with_child, without_child, places_of, removed as unshown}
-use Rattle.sv_stands.specs.Lent.{Any}
+use Rattle.sv_places.specs.Any.{Any}
 use Rattle.sv_states.specs.declared.states.TheConstants.{DEPTH_LIMIT}
 use Rattle.sv_view.specs.Level.{View}
 use Rattle.sv_view.specs.View.{insts}
@@ -62,6 +62,15 @@ pub record Leaves (P : Fact) : Type 0 where
 abbrev pub MakesNone : Program → ℕ → Type 0
 MakesNone p t = (tag : Tag) (c : Component) → slice_get p.tags t ≡ Some tag → component_at p tag.file ≡ Some c → ⊥
 
+-- an effect by which the child at a place goes is done, where none stands there
+abbrev pub Destroys : Fact → Type 0
+Destroys P = (pend : Pending) (q place : ℕ) (es : List Effect) (ks : Kins) (s : Showing) (next : ℕ) → child_at s place ≡ None → P ((q, Destroy place ∷ es) ∷ pend) None [] ks s next →
+    P ((q, es) ∷ pend) None [] ks (without_child s place) next
+
+-- the instances whose effects are to run were made one after the other, and are all that there are at most
+abbrev pub Ascends : Fact → Type 0
+Ascends P = (pend : Pending) (new : Option ℕ) (leaving : List ℕ) (ks : Kins) (s : Showing) (next : ℕ) → P pend new leaving ks s next → Ascend pend × AreBefore (length ks) pend
+
 -- effects that change no child, and those that are done
 pub record Passes (p : Program) (P : Fact) : Type 0 where
   pub ends : (pend : Pending) (q : ℕ) (ks : Kins) (s : Showing) (next : ℕ) → P ((q, []) ∷ pend) None [] ks s next → P pend None [] ks s next
@@ -69,9 +78,8 @@ pub record Passes (p : Program) (P : Fact) : Type 0 where
       P ((q, es) ∷ pend) None [] ks s next
   pub creates : (pend : Pending) (q place t : ℕ) (props : List Given) (view : View) (es : List Effect) (ks : Kins) (s : Showing) (next : ℕ) → MakesNone p t →
       P ((q, Create place t props view ∷ es) ∷ pend) None [] ks s next → P ((q, es) ∷ pend) None [] ks s next
-  pub destroys : (pend : Pending) (q place : ℕ) (es : List Effect) (ks : Kins) (s : Showing) (next : ℕ) → child_at s place ≡ None → P ((q, Destroy place ∷ es) ∷ pend) None [] ks s next →
-      P ((q, es) ∷ pend) None [] ks (without_child s place) next
-  pub ascend : (pend : Pending) (new : Option ℕ) (leaving : List ℕ) (ks : Kins) (s : Showing) (next : ℕ) → P pend new leaving ks s next → Ascend pend × AreBefore (length ks) pend
+  pub destroys : Destroys P
+  pub ascend : Ascends P
 
 -- instances that are made, and views that are lent
 pub record Makes (p : Program) (P : Fact) : Type 0 where

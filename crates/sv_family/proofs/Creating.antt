@@ -1,17 +1,16 @@
 -- Instances that are made and shown, and the effects of patches.
 use Rattle.std.proofs.Common.{◌≡◌, ℕ, zero, suc, ◌<◌, Bool, true, false, List, [], ◌∷◌, length, Option, Some, None, option_map, Result, Ok, Err, refl, sym, ap, subst, ◌∙◌, slice_get, nat_le, inl, inr, ⊎_elim}
-use Rattle.std.proofs.lemmas.List.{get_or_push}
 use Rattle.std.proofs.lemmas.Option.{none-some}
 use Rattle.sv_code.specs.declared.program.Component.{Component}
 use Rattle.sv_code.specs.declared.program.Program.{Program}
 use Rattle.sv_code.specs.declared.tags.Tag.{Tag}
-use Rattle.sv_family.proofs.Births.{readied_keeps, Births, made_then, child_held, unseen_child, none_made}
-use Rattle.sv_family.proofs.Course.{Fact, Course, born_kin, child_place, root_place, with_born}
+use Rattle.sv_family.proofs.Births.{readied_keeps, Births, made_then, child_held, unseen_child, none_made, Born, New, born_placed, just_born}
+use Rattle.sv_family.proofs.Course.{Fact, Course, child_place, root_place, with_born}
 use Rattle.sv_family.proofs.Destroying.{KeepsSorted, taken_keeps}
 use Rattle.sv_family.proofs.Pictures.{Pictured, pictured, tags-same, markup-same, kins-added, kin_at, IsUnseen, unseen-setup, IsOpened, lent_either, lent-none}
-use Rattle.sv_family.proofs.Scripts.{About, At, Are, are_stay, scripted_brings, world_brings, same_at, set_leaves, kins-setup, kins-tags}
-use Rattle.sv_family.specs.Family.{HasHold, markup_in}
-use Rattle.sv_family.specs.Kin.{Kin, Kins, kin_of, kins, depth_at}
+use Rattle.sv_family.proofs.Scripts.{About, At, Are, are_setups, are_stay, scripted_brings, world_brings, same_at, set_leaves, kins-setup, kins-tags}
+use Rattle.sv_family.specs.Family.{markup_in}
+use Rattle.sv_family.specs.Kin.{Kins, kin_of, kins, depth_at}
 use Rattle.sv_family.specs.Pending.{Pending, AreBefore}
 use Rattle.sv_flush.proofs.Bringing.{Afterwards, Brings, brings_then, nothing_brings, changed_brings}
 use Rattle.sv_flush.specs.Creation.{next, readied, after_waits, cell_count, mount_waits, opened, started, passed, binds, placed, attached, site_of, grown, created, tag_task, child_set, effect_by, created_in, effects, root_site, mounted}
@@ -22,6 +21,7 @@ use Rattle.sv_flush.specs.Showing.{tags_of, recorded, followed, patched_on, patc
 use Rattle.sv_flush.specs.declared.page.Page.{Page}
 use Rattle.sv_frame.proofs.Outcomes.{at_ends, Left}
 use Rattle.sv_frame.proofs.Running.{modules_leave, top_leaves}
+use Rattle.sv_frame.proofs.Stepping.{sets_by}
 use Rattle.sv_instance.specs.declared.instance.Instance.{Instance}
 use Rattle.sv_meaning.specs.Components.{component_at, component_of, markup_of}
 use Rattle.sv_meaning.specs.Outcome.{Ending, Ends, Fails}
@@ -31,14 +31,12 @@ use Rattle.sv_parts.specs.declared.refusal.Refusal.{Refusal}
 use Rattle.sv_parts.specs.declared.state.Effect.{Effect}
 use Rattle.sv_parts.specs.declared.state.Effect.TheVariants as effect
 use Rattle.sv_parts.specs.declared.state.Given.{Given}
-use Rattle.sv_places.proofs.Lookups.{found-put}
 use Rattle.sv_plan.specs.Patch.{After, patched}
-use Rattle.sv_shapes.specs.Showing.{Showing, child_at, with_child}
+use Rattle.sv_shapes.specs.Showing.{Showing, child_at}
 use Rattle.sv_states.specs.States.{live}
 use Rattle.sv_states.specs.declared.states.TheConstants.{DEPTH_LIMIT}
 use Rattle.sv_value.specs.Value.{Val}
 use Rattle.sv_view.specs.Level.{View}
-use Rattle.sv_world.specs.Setup.{set_up}
 use Rattle.sv_world.specs.World.{present_view}
 use Rattle.sv_world.specs.declared.world.World.{World}
 
@@ -48,7 +46,7 @@ Opens p = (n : ℕ) (props : List (ℕ × Val)) (w : World) → IsUnseen n w.sta
 
 -- scripts leave the pictures, and the script of an instance opens it
 pub run_opens : (p : Program) → Opens p → (F : About) (n : ℕ) (props : List (ℕ × Val)) → Brings (λ m. At F m × IsUnseen n m.world.states) (λ m. At F m × IsOpened p n m.world.states) (scripted (run_top p n props))
-run_opens p opens F n props = record { held = λ m h. by m h.0 (run_top p n props m.world) ((top_leaves (are_stay p (kins m.world.states)) n props).held m.world refl) (opens n props m.world h.1) } where
+run_opens p opens F n props = record { held = λ m h. by m h.0 (run_top p n props m.world) ((top_leaves (are_stay p (kins m.world.states)) n (sets_by (are_setups (kins m.world.states)) n) props).held m.world refl) (opens n props m.world h.1) } where
   by : (m : Page) → At F m → (e : Ending (Unit {0})) → Left (at_ends (Are (kins m.world.states))) e → Left (at_ends (IsOpened p n)) e → Afterwards (λ m. At F m × IsOpened p n m.world.states) (ended m e)
   by m h (Ends a w) same opened = (same_at F m w same h, opened)
   by m h (Fails kind s w) same opened = tt
@@ -110,17 +108,12 @@ module _ (p : Program) (P : Fact) (course : Course p P) (sorted : KeepsSorted P)
   -- ---- a child that was made just now
 
   module _ (pend : Pending) (q place : ℕ) (view : View) (n : ℕ) where
-    -- it stands at its place, and wasn't lent its owner's view yet
-    pub record New (ks : Kins) (s : Showing) (next : ℕ) : Type 0 where
-      pub kin : Kin
-      pub there : at ks n ≡ Some kin
-      pub fact : P pend (Some n) [] ks s next
-      pub hold : HasHold p ks s q place view
-      pub stands : child_at s place ≡ Some n
+    abbrev Newly : About
+    Newly = New p P pend q place view n
 
-    lent_new : Brings (λ m. At New m × IsOpened p n m.world.states) (At (Calm pend)) (in_world (lent_if p n (Some view)))
+    lent_new : Brings (λ m. At Newly m × IsOpened p n m.world.states) (At (Calm pend)) (in_world (lent_if p n (Some view)))
     lent_new = record { held = λ m h. by m h.0 h.1 (pictured m.world.states n h.0.kin h.0.there) } where
-      by : (m : Page) (h : At New m) → IsOpened p n m.world.states → Pictured m.world.states n h.kin → At (Calm pend) (record m { world = lent p n view m.world })
+      by : (m : Page) (h : At Newly m) → IsOpened p n m.world.states → Pictured m.world.states n h.kin → At (Calm pend) (record m { world = lent p n view m.world })
       by m h ready i =
           let ks : Kins = kins m.world.states in
           let there : at ks n ≡ Some (kin_of i.instance) = kin_at m.world.states n (Some i.instance) i.live_is in
@@ -131,35 +124,23 @@ module _ (p : Program) (P : Fact) (course : Course p P) (sorted : KeepsSorted P)
           (course.makes.lends pend (Some n) q place n (kin_of i.instance) view ks m.showing m.counters.next (inr refl) h.hold h.stands there now.1 h.fact))
           (lent_either p n view m.world i.instance i.live_is)
 
-    new_started : (props : List Given) → AreBefore n pend → (run : Effect → Task) → Runs pend n run → Brings (λ m. At New m × IsUnseen n m.world.states) (At (Calm pend)) (started p (each run) n props (Some view))
+    new_started : (props : List Given) → AreBefore n pend → (run : Effect → Task) → Runs pend n run → Brings (λ m. At Newly m × IsUnseen n m.world.states) (At (Calm pend)) (started p (each run) n props (Some view))
     new_started props before run runs =
-        brings_then (brings_then (run_opens p opens New n (passed props)) (λ _. brings_then lent_new (λ _. nothing_brings))) (λ _. rest_keeps pend n before run runs)
+        brings_then (brings_then (run_opens p opens Newly n (passed props)) (λ _. brings_then lent_new (λ _. nothing_brings))) (λ _. rest_keeps pend n before run runs)
 
-  -- it was made, and isn't placed yet
   module _ (pend : Pending) (q place : ℕ) (view : View) (n : ℕ) where
-    pub record Born (ks : Kins) (s : Showing) (next : ℕ) : Type 0 where
-      pub kin : Kin
-      pub there : at ks n ≡ Some kin
-      pub fact : P pend (Some n) [] ks (with_child s place n) next
-      pub hold : HasHold p ks (with_child s place n) q place view
-      pub before : AreBefore n pend
+    -- it isn't placed yet, nor was it ever shown
+    abbrev IsBorn : Page → Type 0
+    IsBorn m = At (Born p P pend q place view n) m × IsUnseen n m.world.states
 
-    -- nor was it ever shown
-    abbrev pub IsBorn : Page → Type 0
-    IsBorn m = At Born m × IsUnseen n m.world.states
-
-    born_placed : (m : Page) → IsBorn m → At (New pend q place view n) (placed place view n m) × IsUnseen n (placed place view n m).world.states
-    born_placed m k = let h = k.0 in (
-      same_at (New pend q place view n) (record m { showing = with_child m.showing place n }) (set_up (λ s. record s { locals = view.own.locals }) m.world n) (kins-setup m.world.states (λ s. record s { locals = view.own.locals }) n)
-          (record { kin = h.kin; there = h.there; fact = h.fact; hold = h.hold; stands = found-put m.showing.children place n }),
-      unseen-setup m.world.states (λ s. record s { locals = view.own.locals }) n k.1,
-    )
+    unseen_placed : (m : Page) → IsBorn m → At (New p P pend q place view n) (placed place view n m) × IsUnseen n (placed place view n m).world.states
+    unseen_placed m h = (born_placed p P pend q place view n m h.0, unseen-setup m.world.states (λ s. record s { locals = view.own.locals }) n h.1)
 
     born_grown : (run : ℕ → Effect → Task) (props : List Given) (t : Tag) → Runs pend n (run n) → Brings IsBorn (At (Calm pend)) (grown p (λ n. each (run n)) place props view t n)
     born_grown run props t runs = record { held = λ m h. (whole h.0.before).held m h } where
       whole : AreBefore n pend → Brings IsBorn (At (Calm pend)) (grown p (λ n. each (run n)) place props view t n)
       whole before =
-          brings_then (changed_brings {Q = IsBorn} {R = λ m. At (New pend q place view n) m × IsUnseen n m.world.states} (placed place view n) born_placed) (λ _.
+          brings_then (changed_brings {Q = IsBorn} {R = λ m. At (New p P pend q place view n) m × IsUnseen n m.world.states} (placed place view n) unseen_placed) (λ _.
           brings_then (new_started pend q place view n props before (run n) runs) (λ _.
           brings_then (world_brings (Calm pend) (attached n) (λ w. kins-setup w.states (λ s. record s { attached = true }) n)) (λ _.
           brings_then (changed_brings {Q = At (Calm pend)} {R = At (Calm pend)} (binds p t n view.own.inst) (λ m h. h)) (λ _. nothing_brings))))
@@ -174,23 +155,17 @@ module _ (p : Program) (P : Fact) (course : Course p P) (sorted : KeepsSorted P)
     Rest = (q, es) ∷ pend
 
     child_born : (c : Component) → component_at p tag.file ≡ Some c → (ks : Kins) (s : Showing) (next : ℕ) → depth_at ks q < DEPTH_LIMIT → Creating ks s next
-        → Born Rest q place view (length ks) (with_born ks (child_place ks tag q k view) (cell_count c)) s next
+        → Born p P Rest q place view (length ks) (with_born ks (child_place ks tag q k view) (cell_count c)) s next
     child_born c comp ks s next shallow h =
-        let made = course.makes.makes pend q place k props view es ks s next tag c is comp shallow h in
-        record {
-          kin = born_kin (child_place ks tag q k view) (cell_count c);
-          there = get_or_push ks (Some (born_kin (child_place ks tag q k view) (cell_count c))) None (length ks) refl;
-          fact = made.0;
-          hold = made.1;
-          before = (course.passes.ascend ((q, effect.Create place k props view ∷ es) ∷ pend) None [] ks s next h).1;
-        }
+        just_born p P Rest q place view (child_place ks tag q k view) (cell_count c) ks s next (course.passes.ascend ((q, effect.Create place k props view ∷ es) ∷ pend) None [] ks s next h).1
+        (course.makes.makes pend q place k props view es ks s next tag c is comp shallow h)
 
-    born_child : Births p (site_of q k view tag) Creating (IsBorn Rest q place view)
-    born_child c comp m fits h = (child_held p q k view tag Creating (Born Rest q place view) c (child_born c comp) m fits h, unseen_child p q k view tag c m)
+    born_child : Births p (site_of q k view tag) (At Creating) (IsBorn Rest q place view)
+    born_child c comp m fits h = (child_held p q k view tag Creating (Born p P Rest q place view) c (child_born c comp) m fits h, unseen_child p q k view tag c m)
 
     created_keeps : (run : ℕ → Effect → Task) → ((n : ℕ) → Runs Rest n (run n)) → Brings (At Creating) (At (Calm Rest)) (created p (λ n. each (run n)) q place k props view tag)
     created_keeps run runs =
-        made_then p (site_of q k view tag) Creating (Calm Rest) (IsBorn Rest q place view)
+        made_then p (site_of q k view tag) (At Creating) (At (Calm Rest)) (IsBorn Rest q place view) (λ m left h. h)
         (λ none m h. course.passes.creates pend q place k props view es (kins m.world.states) m.showing m.counters.next (none_made p q k view tag is none) h)
         born_child (λ n. born_grown Rest q place view n run props tag (runs n))
 
@@ -244,7 +219,7 @@ module _ (p : Program) (P : Fact) (course : Course p P) (sorted : KeepsSorted P)
   effect_keeps : (create : Creates) → CreatesKeep create → (pend : Pending) (q : ℕ) (es : List Effect) (e : Effect) → Brings (At (Calm ((q, e ∷ es) ∷ pend))) (At (Calm ((q, es) ∷ pend))) (effect_by p create q e)
   effect_keeps create keeps pend q es (effect.Create place k props view) = create_keeps create keeps pend q place k props view es (slice_get p.tags k) refl
   effect_keeps create keeps pend q es (effect.Set place props view) = record { held = λ m h. set_held pend q place props es view m (child_at m.showing place) refl h }
-  effect_keeps create keeps pend q es (effect.Destroy place) = taken_keeps p P course.leaves sorted course.passes pend q place es
+  effect_keeps create keeps pend q es (effect.Destroy place) = taken_keeps p P course.leaves sorted course.passes.destroys course.passes.ascend pend q place es
 
   all_effects_keep : (create : Creates) → CreatesKeep create → (pend : Pending) (q : ℕ) → Runs pend q (effect_by p create q)
   all_effects_keep create keeps pend q [] = record { held = λ m h. course.passes.ends pend q (kins m.world.states) m.showing m.counters.next h }
@@ -263,14 +238,14 @@ module _ (p : Program) (P : Fact) (course : Course p P) (sorted : KeepsSorted P)
 
   root_started : (n : ℕ) → Brings (At (Calm [])) (At (Calm [])) (started p (effects DEPTH_LIMIT p n) n [] None)
   root_started n =
-      brings_then (brings_then (scripted_brings (Calm []) (λ old. top_leaves (are_stay p old) n (passed []))) (λ _. brings_then (world_brings (Calm []) (lent_if p n None) (λ w. refl)) (λ _. nothing_brings))) (λ _.
+      brings_then (brings_then (scripted_brings (Calm []) (λ old. top_leaves (are_stay p old) n (sets_by (are_setups old) n) (passed []))) (λ _. brings_then (world_brings (Calm []) (lent_if p n None) (λ w. refl)) (λ _. nothing_brings))) (λ _.
       rest_keeps [] n tt (effect_by p (created_in DEPTH_LIMIT p) n) (effects_keep DEPTH_LIMIT [] n))
 
-  born_root : Births p root_site (Calm []) (λ n. At (Calm []))
+  born_root : Births p root_site (At (Calm [])) (λ n. At (Calm []))
   born_root c comp m fits h = subst (λ ks. P [] None [] ks m.showing m.counters.next) (sym (kins-added m.world.states root_place (cell_count c) c.constants))
       (course.makes.roots (kins m.world.states) m.showing m.counters.next c comp h)
 
   pub mounted_keeps : Keeps [] (mounted p)
   unfolding mounted
   mounted_keeps =
-      brings_then (scripted_brings (Calm []) (λ old. modules_leave (are_stay p old))) (λ _. made_then p root_site (Calm []) (Calm []) (λ n. At (Calm [])) (λ none m h. h) born_root root_started)
+      brings_then (scripted_brings (Calm []) (λ old. modules_leave (are_stay p old) (λ ms ms' s h. h))) (λ _. made_then p root_site (At (Calm [])) (At (Calm [])) (λ n. At (Calm [])) (λ m left h. h) (λ none m h. h) born_root root_started)

@@ -8,15 +8,15 @@ use Rattle.sv_code.specs.Names.{Each}
 use Rattle.sv_code.specs.declared.program.Component.{Component}
 use Rattle.sv_code.specs.declared.program.Program.{Program}
 use Rattle.sv_family.proofs.Creating.{Opens}
-use Rattle.sv_family.proofs.Opening.{Has, HasIn, has_stays, declared-has, lasting_steps, unseen_lasts}
+use Rattle.sv_family.proofs.Opening.{Has, HasIn, has_setups, has_stays, declared-has, lasting_steps, unseen_lasts}
 use Rattle.sv_family.proofs.Pictures.{IsUnseen, IsOpened, component-same}
-use Rattle.sv_family.proofs.Scripts.{Are, are_stay, plain_kin}
+use Rattle.sv_family.proofs.Scripts.{Are, are_setups, are_stay, plain_kin}
 use Rattle.sv_family.specs.Family.{component_for as component_in}
 use Rattle.sv_family.specs.Kin.{kins}
 use Rattle.sv_frame.proofs.Altering.{pictures_stay}
 use Rattle.sv_frame.proofs.Outcomes.{at_ends, Left, Stays, both_stay, ends_stay}
 use Rattle.sv_frame.proofs.Running.{top_leaves}
-use Rattle.sv_frame.proofs.Stepping.{Steps, steps_stay}
+use Rattle.sv_frame.proofs.Stepping.{Setups, Steps, sets_by, steps_stay}
 use Rattle.sv_instance.specs.Cells as cells
 use Rattle.sv_instance.specs.declared.instance.Instance.{Instance}
 use Rattle.sv_meaning.specs.Components.{component_for, component_of}
@@ -89,7 +89,7 @@ module _ (n : ℕ) where
 
   view_steps : (o : Option ℕ) → Steps (ViewHas o)
   view_steps None = record {
-    left = λ s f m h. h;
+    left = λ s f m e h. h;
     assigned = λ s m c v h. h;
     store_set = λ s id v h. h;
     computed = λ s id v h. h;
@@ -99,6 +99,10 @@ module _ (n : ℕ) where
     subscribed = λ s p source v h. h;
   }
   view_steps (Some cell) = has_stays n cell
+
+  view_setups : (o : Option ℕ) → Setups (ViewHas o)
+  view_setups None s f m h = h
+  view_setups (Some cell) s f m h = has_setups n cell s f m h
 
   view_has : (o : Option ℕ) (w : World) → IsUnseen n w.states → ViewHas o (view_opened n o w).states
   view_has None w h = tt
@@ -140,11 +144,14 @@ module _ (p : Program) (n : ℕ) (props : List (ℕ × Val)) (w : World) (unseen
     leaving_stays : Stays p (at_ends Leaving)
     leaving_stays = both_stay (are_stay p (kins w.states)) (ends_stay (steps_stay (view_steps n c.view) p))
 
+    leaving_setups : Setups Leaving
+    leaving_setups s f m h = (are_setups (kins w.states) s f m h.0, view_setups n c.view s f m h.1)
+
     run_ready : component_of p ready n ≡ Some c → run_top p n props ready ≡ run_component p c n props ready
     run_ready e = rw e refl
 
     again : Left (at_ends Leaving) (run_component p c n props ready)
-    again = subst (λ e. Left (at_ends Leaving) e) (run_ready (same_component ready.states same_kins)) ((top_leaves leaving_stays n props).held ready (same_kins, has_view))
+    again = subst (λ e. Left (at_ends Leaving) e) (run_ready (same_component ready.states same_kins)) ((top_leaves leaving_stays n (sets_by leaving_setups n) props).held ready (same_kins, has_view))
 
     leaves : Left (at_ends Leaving) (run_component p c n props w)
     leaves = subst (λ x. Left (at_ends Leaving) (then_do (each_in_turn (name_subscribed n) c.stores (functions_set n c.script x)) (λ u. script p n props c.script))) idle again

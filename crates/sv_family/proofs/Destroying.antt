@@ -5,8 +5,8 @@ use Rattle.std.proofs.lemmas.List.{map-set}
 use Rattle.sv_code.proofs.Each.{each_mono}
 use Rattle.sv_code.specs.Names.{Each}
 use Rattle.sv_code.specs.declared.program.Program.{Program}
-use Rattle.sv_family.proofs.Course.{Fact, Leaves, Passes}
-use Rattle.sv_family.proofs.Scripts.{About, At, are_stay, scripted_brings, all_back_leave, called_if_leaves, unless_leaves}
+use Rattle.sv_family.proofs.Course.{Fact, Leaves, Destroys, Ascends}
+use Rattle.sv_family.proofs.Scripts.{About, At, are_stay, scripted_brings}
 use Rattle.sv_family.proofs.Passing.{child-absent}
 use Rattle.sv_family.proofs.Removal.{found-gone}
 use Rattle.sv_family.proofs.Taken.{still-none, shown-kept, at-kept}
@@ -14,6 +14,7 @@ use Rattle.sv_family.specs.Family.{AreSorted}
 use Rattle.sv_family.specs.Kin.{Kins, kin_of, kins, depth_at}
 use Rattle.sv_family.specs.Pending.{Pending, AreBefore}
 use Rattle.sv_flush.proofs.Bringing.{Afterwards, Brings, brings_then, nothing_brings, changed_brings, each_brings}
+use Rattle.sv_flush.proofs.Playing.{all_back_leave, called_if_leaves, unless_leaves}
 use Rattle.sv_flush.specs.Callbacks.{callbacks_of, called_if, unless, after}
 use Rattle.sv_flush.specs.Destruction.{gone, taken, child_task, destroyed_by, children_destroyed, destroyed}
 use Rattle.sv_flush.specs.Outcome.{Outcome, Done, Halted, Task, each}
@@ -23,7 +24,7 @@ use Rattle.sv_instance.specs.declared.callbacks.When.TheVariants.{After, Destroy
 use Rattle.sv_parts.specs.declared.state.Effect.{Effect}
 use Rattle.sv_parts.specs.declared.state.Effect.TheVariants as effect
 use Rattle.sv_shapes.specs.Showing.{Showing, places_of, child_at, without_child, removed as unshown}
-use Rattle.sv_stands.specs.Lent.{Any}
+use Rattle.sv_places.specs.Any.{Any}
 use Rattle.sv_states.specs.declared.states.TheConstants.{DEPTH_LIMIT}
 
 -- places have their children by ascending number
@@ -216,16 +217,16 @@ module _ (p : Program) (P : Fact) (leave : Leaves P) (sorted : KeepsSorted P) wh
 
   -- ---- the effect
 
-  module _ (passes : Passes p P) where
+  module _ (destroys : Destroys P) (ascends : Ascends P) where
     pub taken_keeps : (pend : Pending) (q place : ℕ) (es : List Effect) → Brings (At (P ((q, effect.Destroy place ∷ es) ∷ pend) None [])) (At (P ((q, es) ∷ pend) None [])) (taken (destroyed DEPTH_LIMIT p) place)
     taken_keeps pend q place es = record { held = λ m h. by m (child_at m.showing place) refl h } where
       by : (m : Page) (o : Option ℕ) → child_at m.showing place ≡ o → At (P ((q, effect.Destroy place ∷ es) ∷ pend) None []) m
           → Afterwards (At (P ((q, es) ∷ pend) None [])) (child_task (destroyed DEPTH_LIMIT p) o (record m { showing = without_child m.showing place }))
-      by m None e h = passes.destroys pend q place es (kins m.world.states) m.showing m.counters.next e h
+      by m None e h = destroys pend q place es (kins m.world.states) m.showing m.counters.next e h
       by m (Some n) e h =
           let ks : Kins = kins m.world.states in
           let parents = leave.parents ((q, effect.Destroy place ∷ es) ∷ pend) None [] ks m.showing m.counters.next h in
           let lt : q < n = parents.earlier n q (leave.destroyed_child pend q place es n ks m.showing m.counters.next e h) in
-          let order = (passes.ascend ((q, effect.Destroy place ∷ es) ∷ pend) None [] ks m.showing m.counters.next h).0 in
+          let order = (ascends ((q, effect.Destroy place ∷ es) ∷ pend) None [] ks m.showing m.counters.next h).0 in
           (all_go ((q, es) ∷ pend) n (lt, each_mono (λ e. e.0 < q) (λ e. e.0 < n) (λ e k. omega (arith, k, lt)) pend order.0)).held
           (record m { showing = without_child m.showing place }) (leave.leaves_destroyed pend q place es n ks m.showing m.counters.next e h)

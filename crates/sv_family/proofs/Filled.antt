@@ -25,7 +25,8 @@ use Rattle.sv_shapes.specs.declared.shape.Shape.{Shape}
 use Rattle.sv_shapes.specs.declared.shown.Shown.{Shown}
 use Rattle.sv_stands.proofs.Patches.{patch_lends, patch_makes}
 use Rattle.sv_stands.specs.Holds.{Hold, holds}
-use Rattle.sv_stands.specs.Lent.{Any, Makes, GoesOn, IsLent, IsMade}
+use Rattle.sv_places.specs.Any.{Any}
+use Rattle.sv_stands.specs.Lent.{Makes, GoesOn, IsLent, IsMade}
 use Rattle.sv_view.specs.Level.{View}
 use Rattle.sv_view.specs.View.{insts}
 
@@ -40,7 +41,7 @@ any_right : {A : Type 0} (Q : A → Type 0) (xs ys : List A) → Any Q ys → An
 any_right Q [] ys h = h
 any_right Q (x ∷ xs) ys h = inr (any_right Q xs ys h)
 
-any_here : (Q : Effect → Type 0) (pend : Pending) (n : ℕ) (es : List Effect) → Any Q es → Any Q (pending_of ((n, es) ∷ pend) n)
+pub any_here : (Q : Effect → Type 0) (pend : Pending) (n : ℕ) (es : List Effect) → Any Q es → Any Q (pending_of ((n, es) ∷ pend) n)
 any_here Q pend n es h = subst (λ b. Any Q ((if b then es else []) ++ pending_of pend n)) (sym (eq-eqb n n refl)) (any_left Q es (pending_of pend n) h)
 
 -- ---- holds

@@ -29,14 +29,15 @@ use Rattle.sv_shapes.specs.Showing.{Showing, shown_of, child_at, places_of, with
 use Rattle.sv_shapes.specs.declared.shown.Shown.{Shown}
 use Rattle.sv_stands.proofs.Stands.{places_held}
 use Rattle.sv_stands.specs.Holds.{Hold}
-use Rattle.sv_stands.specs.Lent.{Any, Makes}
+use Rattle.sv_places.specs.Any.{Any}
+use Rattle.sv_stands.specs.Lent.{Makes}
 use Rattle.sv_tokens.specs.Counting.{one}
 use Rattle.sv_view.specs.Level.{View}
 
 -- ---- effects
 
 -- one of those that are to run is the first, or one of the others
-any_next : (Q : Effect → Type 0) (pend : Pending) (q : ℕ) (e : Effect) (es : List Effect) (r : ℕ) → Any Q (pending_of ((q, e ∷ es) ∷ pend) r) → Q e ⊎ Any Q (pending_of ((q, es) ∷ pend) r)
+pub any_next : (Q : Effect → Type 0) (pend : Pending) (q : ℕ) (e : Effect) (es : List Effect) (r : ℕ) → Any Q (pending_of ((q, e ∷ es) ∷ pend) r) → Q e ⊎ Any Q (pending_of ((q, es) ∷ pend) r)
 any_next Q pend q e es r = by (nat_eq q r) where
   by : (b : Bool) → Any Q ((if b then e ∷ es else []) ++ pending_of pend r) → Q e ⊎ Any Q ((if b then es else []) ++ pending_of pend r)
   by true h = h

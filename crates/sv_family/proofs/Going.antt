@@ -22,7 +22,8 @@ use Rattle.sv_shapes.specs.Places.{places_all}
 use Rattle.sv_shapes.specs.Showing.{Showing, child_at, places_of, shown_of, removed}
 use Rattle.sv_shapes.specs.declared.shown.Shown.{Shown}
 use Rattle.sv_stands.specs.Holds.{Hold, holds}
-use Rattle.sv_stands.specs.Lent.{Any, IsFor}
+use Rattle.sv_places.specs.Any.{Any}
+use Rattle.sv_stands.specs.Lent.{IsFor}
 use Rattle.sv_tokens.specs.Counting.{one}
 use Rattle.sv_view.specs.Level.{View}
 use Rattle.sv_view.specs.View.{insts, levels_of}
@@ -105,11 +106,11 @@ module _ (ks : Kins) (n : ℕ) (alone : (d : ℕ) → parent_at ks d ≡ Some n 
 
   -- ---- who is below another one
 
-  below-other : (o m : ℕ) → IsBelow ks o m → o ≢ n
+  pub below-other : (o m : ℕ) → IsBelow ks o m → o ≢ n
   below-other o m (child k is) = is-another k o is
   below-other o m (further k q is below) = below-other o q below
 
-  below-stays : (o m : ℕ) → m ≢ n → IsBelow ks o m → IsBelow others o m
+  pub below-stays : (o m : ℕ) → m ≢ n → IsBelow ks o m → IsBelow others o m
   below-stays o m other (child k is) = child k (parent-stays k other ∙ is)
   below-stays o m other (further k q is below) = further k q (parent-stays k other ∙ is) (below-stays o q (is-another k q is) below)
 

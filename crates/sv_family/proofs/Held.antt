@@ -17,7 +17,7 @@ use Rattle.sv_shapes.specs.declared.shown.Shown.{Shown}
 use Rattle.sv_stands.proofs.Markup.{all_stands}
 use Rattle.sv_stands.proofs.Stands.{places_held}
 use Rattle.sv_stands.specs.Holds.{Hold}
-use Rattle.sv_stands.specs.Lent.{Any}
+use Rattle.sv_places.specs.Any.{Any}
 use Rattle.sv_states.proofs.Altering.{option_cases}
 use Rattle.sv_tokens.proofs.Counting.{one-most}
 use Rattle.sv_tokens.specs.Counting.{one}

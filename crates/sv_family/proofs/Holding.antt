@@ -14,7 +14,8 @@ use Rattle.sv_parts.specs.declared.state.Given.{Given}
 use Rattle.sv_shapes.specs.Showing.{Showing, shown_of}
 use Rattle.sv_shapes.specs.declared.shown.Shown.{Shown}
 use Rattle.sv_stands.specs.Holds.{Hold}
-use Rattle.sv_stands.specs.Lent.{Any, IsFor, Makes, Lends}
+use Rattle.sv_places.specs.Any.{Any}
+use Rattle.sv_stands.specs.Lent.{IsFor, Makes, Lends}
 use Rattle.sv_view.specs.Level.{View}
 
 pub any_mono : {A : Type 0} (P Q : A → Type 0) → ((x : A) → P x → Q x) → (xs : List A) → Any P xs → Any Q xs

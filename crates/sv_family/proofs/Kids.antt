@@ -14,7 +14,7 @@ use Rattle.sv_plan.specs.Patch.{old_parts}
 use Rattle.sv_shapes.specs.Places.{places_all}
 use Rattle.sv_shapes.specs.Showing.{Showing, child_at, places_of, shown_of}
 use Rattle.sv_shapes.specs.declared.shown.Shown.{Shown}
-use Rattle.sv_stands.specs.Lent.{Any}
+use Rattle.sv_places.specs.Any.{Any}
 use Rattle.sv_tokens.proofs.Counting.{one-most}
 use Rattle.sv_tokens.specs.Counting.{one}
 

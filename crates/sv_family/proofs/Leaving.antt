@@ -18,7 +18,7 @@ use Rattle.sv_places.specs.Keeping.{parts_of}
 use Rattle.sv_shapes.specs.Places.{places_all}
 use Rattle.sv_shapes.specs.Showing.{Showing, child_at, places_of, without_child}
 use Rattle.sv_stands.specs.Holds.{Hold}
-use Rattle.sv_stands.specs.Lent.{Any}
+use Rattle.sv_places.specs.Any.{Any}
 use Rattle.sv_tokens.specs.Counting.{one}
 
 -- ---- who leaves

@@ -8,7 +8,7 @@ use Rattle.sv_code.specs.Names.{Each}
 use Rattle.sv_code.specs.declared.program.Program.{Program}
 use Rattle.sv_family.proofs.Held.{any_counts, held_places, child_by_place, held_alone}
 use Rattle.sv_family.proofs.Holding.{any_mono, each_both, for_stays}
-use Rattle.sv_family.proofs.Staying.{Stay, is_there, above_stay, shown_holds, shown_stays}
+use Rattle.sv_family.proofs.Staying.{Stay, is_there, lending_stays, above_stay, shown_holds, shown_stays}
 use Rattle.sv_family.specs.Family.{Family, AreAbove, AreParents, HaveCells, AreLent, ArePlaces, AreChildren, AreKept, ArePending, HasHold, HoldIsKept, IsKept, IsShown, markup_in, holds_in, is_parent, is_child_of, kid}
 use Rattle.sv_family.specs.Kin.{Kin, Kins, tag_of, tag_at, tags_in, tags_now, insts_now, parent_of, parent_at, depth_of, depth_at, IsBelow, is_lent, with_lent}
 use Rattle.sv_stands.proofs.Standing.{holds_stand}
@@ -22,26 +22,26 @@ use Rattle.sv_shapes.specs.Places.{places_all}
 use Rattle.sv_shapes.specs.Showing.{Showing, shown_of, child_at}
 use Rattle.sv_shapes.specs.declared.shown.Shown.{Shown}
 use Rattle.sv_stands.specs.Holds.{Hold}
-use Rattle.sv_stands.specs.Lent.{Any}
+use Rattle.sv_places.specs.Any.{Any}
 use Rattle.sv_states.proofs.Altering.{altered-some, at-altered_same, at-altered_other}
 use Rattle.sv_states.specs.declared.states.TheConstants.{DEPTH_LIMIT}
 use Rattle.sv_tokens.specs.Counting.{one}
 use Rattle.sv_view.specs.Level.{View}
 use Rattle.sv_view.specs.View.{insts, levels_of}
 
-each_drop : {A : Type 0} (Q : A → Type 0) (n : ℕ) (xs : List A) → Each Q xs → Each Q (drop n xs)
+pub each_drop : {A : Type 0} (Q : A → Type 0) (n : ℕ) (xs : List A) → Each Q xs → Each Q (drop n xs)
 each_drop Q zero xs h = h
 each_drop Q (suc n) [] h = tt
 each_drop Q (suc n) (x ∷ xs) h = each_drop Q n xs h.1
 
 -- what is so of one and of each is so of one at once
-any_each : {A : Type 0} (P Q : A → Type 0) (xs : List A) → Any P xs → Each Q xs → Any (λ x. P x × Q x) xs
+pub any_each : {A : Type 0} (P Q : A → Type 0) (xs : List A) → Any P xs → Each Q xs → Any (λ x. P x × Q x) xs
 any_each P Q [] h k = h
 any_each P Q (x ∷ xs) (inl h) k = inl (h, k.0)
 any_each P Q (x ∷ xs) (inr h) k = inr (any_each P Q xs h k.1)
 
 -- one of them
-the_one : {A : Type 0} (P : A → Type 0) (xs : List A) → Any P xs → (x : A) × P x
+pub the_one : {A : Type 0} (P : A → Type 0) (xs : List A) → Any P xs → (x : A) × P x
 the_one P [] h = absurd h
 the_one P (x ∷ xs) (inl h) = (x, h)
 the_one P (x ∷ xs) (inr h) = the_one P xs h
@@ -60,12 +60,7 @@ module _ (p : Program) (pend : Pending) (new : Option ℕ) (q place n : ℕ) (ki
   at_else m other = at-altered_other (with_lent view) ks n m other
 
   pub lent_stay : Stay ks later
-  lent_stay m k e = ⊎_elim
-      (λ same.
-      let one : kin ≡ k = same_Some kin k (sym live ∙ (ap (at ks) (sym same) ∙ e)) in
-      record { now = with_lent view kin; is = ap (at later) same ∙ at_lent; place = ap (λ (z : Kin). z.place) one; cells = ap (λ (z : Kin). z.cells) one })
-      (λ other. record { now = k; is = at_else m other ∙ e; place = refl; cells = refl })
-      (cases_eq m n)
+  lent_stay = lending_stays view ks n kin live
 
   -- who is there was lent the view, or is as it was
   which : (m : ℕ) (k : Kin) → at later m ≡ Some k → ((m ≡ n) × (k ≡ with_lent view kin)) ⊎ ((m ≢ n) × (at ks m ≡ Some k))
@@ -114,14 +109,14 @@ module _ (p : Program) (pend : Pending) (new : Option ℕ) (q place n : ℕ) (ki
   pub record IsIt (h : Hold) : Type 0 where
     pub place_is : h.place ≡ place
     pub view_is : h.view ≡ view
-    pub on : StandsOn p (tags_in ks shown.view) shown.view h
+    pub on : StandsOn p (markup_in p ks q) (tags_in ks shown.view) shown.view h
     pub kept : HoldIsKept ks s h
 
   any_is : Any IsIt (holds_in p ks q shown)
-  any_is = any_mono (λ h. ((h.place ≡ place) × (h.view ≡ view)) × (StandsOn p (tags_in ks shown.view) shown.view h × HoldIsKept ks s h)) IsIt
+  any_is = any_mono (λ h. ((h.place ≡ place) × (h.view ≡ view)) × (StandsOn p (markup_in p ks q) (tags_in ks shown.view) shown.view h × HoldIsKept ks s h)) IsIt
       (λ h m. record { place_is = m.0.0; view_is = m.0.1; on = m.1.0; kept = m.1.1 }) (holds_in p ks q shown)
       (any_each _ _ (holds_in p ks q shown) has.hold
-      (each_both (StandsOn p (tags_in ks shown.view) shown.view) (HoldIsKept ks s) (λ h. StandsOn p (tags_in ks shown.view) shown.view h × HoldIsKept ks s h) (λ h a b. (a, b)) (holds_in p ks q shown)
+      (each_both (StandsOn p (markup_in p ks q) (tags_in ks shown.view) shown.view) (HoldIsKept ks s) (λ h. StandsOn p (markup_in p ks q) (tags_in ks shown.view) shown.view h × HoldIsKept ks s h) (λ h a b. (a, b)) (holds_in p ks q shown)
       (holds_stand p (tags_in ks shown.view) (markup_in p ks q) shown.view shown.parts q_shown.owners) (f.kept q shown has.is)))
 
   it : (h : Hold) × IsIt h

@@ -32,7 +32,7 @@ use Rattle.sv_shapes.specs.Places.{places_all}
 use Rattle.sv_shapes.specs.Showing.{Showing, shown_of, child_at, with_child}
 use Rattle.sv_shapes.specs.declared.shown.Shown.{Shown}
 use Rattle.sv_stands.specs.Holds.{Hold}
-use Rattle.sv_stands.specs.Lent.{Any}
+use Rattle.sv_places.specs.Any.{Any}
 use Rattle.sv_states.specs.declared.states.TheConstants.{DEPTH_LIMIT}
 use Rattle.sv_tokens.proofs.Counting.{one-most}
 use Rattle.sv_tokens.specs.Counting.{one}

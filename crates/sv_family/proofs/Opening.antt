@@ -4,7 +4,8 @@ use Rattle.std.proofs.lemmas.Bool.{cases_eq}
 use Rattle.std.proofs.lemmas.List.{length-set, get_or-set_same, get_or-set_other}
 use Rattle.std.proofs.lemmas.Option.{none-some, same_Some}
 use Rattle.sv_family.proofs.Pictures.{IsUnseen}
-use Rattle.sv_frame.proofs.Stepping.{Steps}
+use Rattle.sv_frame.proofs.Stepping.{Setups, Steps}
+use Rattle.sv_instance.specs.Bound.{Bound}
 use Rattle.sv_instance.specs.Cells as cells
 use Rattle.sv_instance.specs.Subscriptions.{moved_to}
 use Rattle.sv_instance.specs.declared.instance.Instance.{Instance}
@@ -13,20 +14,20 @@ use Rattle.sv_instance.specs.declared.subscriptions.Subscription.{Subscription}
 use Rattle.sv_derived.specs.Derived.{marked, done}
 use Rattle.sv_numbered.specs.Numbered.{at, altered}
 use Rattle.sv_states.proofs.Altering.{at-altered_same, at-altered_none, at-altered_other}
-use Rattle.sv_states.specs.Assignment.{Way, changes_in, cell_stored, handing, taken, told, store_set, end_set, written, placed_at, looked, moved_if, all_followed, sent, way_of}
+use Rattle.sv_states.specs.Assignment.{Way, changes_in, cell_stored, handing, taken, told, store_set, end_set, written, placed_at, looked, moved_if, all_followed, sent, way_of, way_into, handed_down, with_bound, bound_over, bound_up}
 use Rattle.sv_states.specs.Change.{declared, given, with_subscription, named_over, may_follow, subscribed_to}
 use Rattle.sv_states.specs.Moving.{Goal, goal_of, stores_after, follower_in}
-use Rattle.sv_states.specs.States.{States, live, with_instance, has_cell}
+use Rattle.sv_states.specs.States.{States, live, with_instance, has_cell, value_in}
 use Rattle.sv_states.specs.Waiting.{joins, queued, enqueued}
 use Rattle.sv_store.specs.Stores.{Subscriber, with_value, subscribers_at, differs_at}
 use Rattle.sv_value.specs.Change.{differs}
 use Rattle.sv_value.specs.Value.{Val}
 use Rattle.sv_view.specs.Cell.{Cell}
 
--- ---- a fact of an instance that scripts leave
+-- ---- a fact of an instance that scripts leave, whatever they leave with it besides constants
 
 pub record Lasts (Q : Instance → Type 0) : Type 0 where
-  pub setup : (i : Instance) (u : Setup) → Q i → Q (record i { setup = u })
+  pub setup : (i : Instance) (u : Setup) → u.constants ≡ i.setup.constants → Q i → Q (record i { setup = u })
   pub waits : (i : Instance) → Q i → Q (queued i)
   pub subscribed : (i : Instance) (names : List Subscription) → Q i → Q (record i { subscriptions = names })
   pub assigned : (i : Instance) (c : ℕ) (v : Val) → Q i → Q (record i { cells = cells.assigned i.cells c v })
@@ -56,7 +57,7 @@ module _ (Q : Instance → Type 0) (lasts : Lasts Q) (n : ℕ) where
   abbrev pub Of : States → Type 0
   Of s = In Q n s.lives
 
-  enqueued_in : (s : States) (m : ℕ) → Of s → Of (enqueued s m)
+  pub enqueued_in : (s : States) (m : ℕ) → Of s → Of (enqueued s m)
   enqueued_in s m h = if_either (In Q n) (joins (live s m)) (altered queued s.lives m) s.lives (altered_in Q n queued lasts.waits s.lives m h) h
 
   stored_in : (s : States) (p : Subscriber) (v : Val) → Of s → Of (cell_stored s p v)
@@ -111,9 +112,21 @@ module _ (Q : Instance → Type 0) (lasts : Lasts Q) (n : ℕ) where
   subscribed_in : (s : States) (p : Subscriber) (source : Option ℕ) (v : Val) → Of s → Of (subscribed_to s p source v)
   subscribed_in s p source v h = if_either Of (may_follow s p) (named_over source (goal_of s.stores v) s p) s (named_in source (goal_of s.stores v) s p h) h
 
+  pub handed_in : (s : States) (p : Subscriber) (v : Val) → Of s → Of (handed_down s p v)
+  handed_in s p v h = sent_in (way_into s p v) v s h
+
+  bound_over_in : (o : Option Val) (b : Bound) (old s : States) → Of s → Of (bound_over o b old s)
+  bound_over_in None b old s h = h
+  bound_over_in (Some v) b old s h = sent_in (way_of old b.owner b.target v) v s h
+
+  pub bound_in : (s : States) (m : ℕ) (b : Bound) → Of s → Of (bound_up s m b)
+  bound_in s m b h =
+      bound_over_in (value_in (live s m) b.cell) b s (with_instance (with_bound b) s m)
+      (altered_in Q n (with_bound b) (λ i. lasts.setup i (record i.setup { bounds = b ∷ i.setup.bounds }) refl) s.lives m h)
+
   pub lasting_steps : Steps Of
   lasting_steps = record {
-    left = λ s f m h. altered_in Q n (λ i. record i { setup = f i.setup }) (λ i. lasts.setup i (f i.setup)) s.lives m h;
+    left = λ s f m e h. altered_in Q n (λ i. record i { setup = f i.setup }) (λ i. lasts.setup i (f i.setup) (e i.setup)) s.lives m h;
     assigned = λ s m c v h. sent_in (way_of s m c v) v s h;
     store_set = λ s id v h. set_in s id v h;
     computed = λ s id v h. set_in (record s { derived = done s.derived id }) id v h;
@@ -129,7 +142,7 @@ module _ (Q : Instance → Type 0) (lasts : Lasts Q) (n : ℕ) where
 abbrev pub Has : ℕ → Instance → Type 0
 Has cell i = cell < length i.cells.now → has_cell (Some i) cell ≡ true
 
-has-set : (now : List (Option Cell)) (cell c : ℕ) (x : Option Cell) → (is_some (cells.cell_at now c) ≡ true → is_some x ≡ true) → (cell < length now → is_some (cells.cell_at now cell) ≡ true)
+pub has-set : (now : List (Option Cell)) (cell c : ℕ) (x : Option Cell) → (is_some (cells.cell_at now c) ≡ true → is_some x ≡ true) → (cell < length now → is_some (cells.cell_at now cell) ≡ true)
     → cell < length (slice_set now c x) → is_some (cells.cell_at (slice_set now c x) cell) ≡ true
 has-set now cell c x more has below = ⊎_elim
     (λ same. subst (λ d. is_some (cells.cell_at (slice_set now d x) cell) ≡ true) same
@@ -151,7 +164,7 @@ declared-some (Some seen) o v h = h
 
 pub has_lasts : (cell : ℕ) → Lasts (Has cell)
 has_lasts cell = record {
-  setup = λ i u h. h;
+  setup = λ i u e h. h;
   waits = λ i h. h;
   subscribed = λ i names h. h;
   assigned = λ i c v h. has-set i.cells.now cell c (cells.assigned_cell (cells.cell_at i.cells.now c) v) (assigned-some (cells.cell_at i.cells.now c) v) h;
@@ -159,13 +172,16 @@ has_lasts cell = record {
 }
 
 pub unseen_lasts : Lasts (λ i. i.cells.seen ≡ None)
-unseen_lasts = record { setup = λ i u h. h; waits = λ i h. h; subscribed = λ i names h. h; assigned = λ i c v h. h; declared = λ i c v h. h }
+unseen_lasts = record { setup = λ i u e h. h; waits = λ i h. h; subscribed = λ i names h. h; assigned = λ i c v h. h; declared = λ i c v h. h }
 
 abbrev pub HasIn : ℕ → ℕ → States → Type 0
 HasIn n cell s = In (Has cell) n s.lives
 
 pub has_stays : (n cell : ℕ) → Steps (HasIn n cell)
 has_stays n cell = lasting_steps (Has cell) (has_lasts cell) n
+
+pub has_setups : (n cell : ℕ) → Setups (HasIn n cell)
+has_setups n cell s f m h = altered_in (Has cell) n (λ i. record i { setup = f i.setup }) (λ i k. k) s.lives m h
 
 first-some : (seen : Option (List (Option Cell))) (o : Option Cell) (v : Val) → seen ≡ None → is_some (cells.declared_cell seen o v) ≡ true
 first-some None None v e = refl

@@ -12,6 +12,7 @@ use Rattle.sv_code.specs.Content as looks
 use Rattle.sv_code.specs.Content.{Look, ByTag, BySlot, Stands, HasView, SeesViewBy, SeesView, IsViewSeen, AreContentsSeen, of_frags, of_tag}
 use Rattle.sv_code.specs.Names.{Each}
 use Rattle.sv_code.specs.declared.fragments.Frag.{Frag}
+use Rattle.sv_code.specs.declared.fragments.LetName.{LetName}
 use Rattle.sv_code.specs.declared.parts.Reading.{Reading}
 use Rattle.sv_code.specs.declared.program.Component.{Component}
 use Rattle.sv_code.specs.declared.program.FileCode.{FileCode}
@@ -19,12 +20,12 @@ use Rattle.sv_code.specs.declared.program.FileCode.TheVariants as file_code
 use Rattle.sv_code.specs.declared.program.Program.{Program}
 use Rattle.sv_code.specs.declared.program.ProgramFile.{ProgramFile}
 use Rattle.sv_code.specs.declared.tags.Tag.{Tag}
-use Rattle.sv_family.proofs.Rebound.{IsFree, content_moves}
+use Rattle.sv_family.proofs.Rebound.{IsFree, content_moves, content_back}
 use Rattle.sv_family.specs.Kin.{is_cell_in}
 use Rattle.sv_family.specs.Owners.{SlotsAreOwned}
 use Rattle.sv_flush.specs.Creation.{cell_count}
 use Rattle.sv_meaning.specs.Components.{component_in, component_at}
-use Rattle.sv_stands.specs.Lent.{Any}
+use Rattle.sv_places.specs.Any.{Any}
 use Rattle.sv_stands.specs.Standing.{HasSlot, here, inside}
 
 -- ---- lists
@@ -56,6 +57,10 @@ module _ (p : Program) (view : Option ℕ) where
   sees_free zero = record { moves = λ by reads from to h. tt }
   sees_free (suc depth) = record { moves = λ by reads from to h. h }
 
+  -- also in markup as the content of a tag
+  pub sees_as_content : (depth : ℕ) (lets : List LetName) (list : List Frag) → Each (SeesView p.tags view depth) (of_frags list []) → Each (SeesView p.tags view depth) (looks.of_content lets list)
+  sees_as_content depth lets list h = content_back (SeesView p.tags view depth) (sees_free depth) lets list h
+
   has_view : (reads : Reading) (o : Option ℕ) → HasView reads o → is_some o ≡ true
   has_view reads None h = absurd (h)
   has_view reads (Some cell) h = refl
@@ -70,13 +75,17 @@ module _ (p : Program) (view : Option ℕ) where
           (each_back (SeesView p.tags view depth) (looks.of_attrs t.attrs []) (looks.of_content t.lets t.content)
           (subst (λ u. Each (SeesView p.tags view depth) (of_tag u)) (some_same (sym s.there ∙ is)) s.holds))
 
+  -- so the content of a tag in some markup is seen at any depth, where the markup is
+  pub content_sees : (frags : List Frag) (k : ℕ) (t : Tag) → slice_get p.tags k ≡ Some t → Any (λ look. look.by ≡ ByTag k) (of_frags frags []) →
+      ((depth : ℕ) → Each (SeesView p.tags view depth) (of_frags frags [])) → (depth : ℕ) → Each (SeesView p.tags view depth) (of_frags t.content [])
+  content_sees frags k t is q h depth =
+      each_any (SeesView p.tags view (suc depth)) (λ look. look.by ≡ ByTag k) (Each (SeesView p.tags view depth) (of_frags t.content [])) (λ look n e. tag_sees k t is depth look n e) (of_frags frags []) (h (suc depth)) q
+
   slot_has_view : (frags : List Frag) → HasSlot p frags → ((depth : ℕ) → Each (SeesView p.tags view depth) (of_frags frags [])) → is_some view ≡ true
   slot_has_view frags (here _ q) h =
       each_any (SeesView p.tags view 1) (λ look. look.by ≡ BySlot) (is_some view ≡ true)
       (λ look k e. has_view look.reads view (subst (λ l. SeesViewBy (SeesView p.tags view 0) p.tags view look.reads l) e k)) (of_frags frags []) (h 1) q
-  slot_has_view frags (inside _ k t q is s) h =
-      slot_has_view t.content s
-      (λ depth. each_any (SeesView p.tags view (suc depth)) (λ look. look.by ≡ ByTag k) (Each (SeesView p.tags view depth) (of_frags t.content [])) (λ look n e. tag_sees k t is depth look n e) (of_frags frags []) (h (suc depth)) q)
+  slot_has_view frags (inside _ k t q is s) h = slot_has_view t.content s (content_sees frags k t is q h)
 
 -- ---- components
 
@@ -105,9 +114,14 @@ view_below : (view : Option ℕ) (cells : ℕ) → is_some view ≡ true → All
 view_below None cells some below = absurd (cc)
 view_below (Some v) cells some below = lt-ltb v cells (All-head (λ n. n < cells) v [] below)
 
+-- each slot of a component looks at the owner's view
+pub component_sees : (p : Program) → AreContentsSeen p → (file : ℕ) (c : Component) → component_at p file ≡ Some c → (depth : ℕ) → Each (SeesView p.tags c.view depth) (of_frags c.markup [])
+component_sees p contents file c e =
+    let f = file_of p file c e in
+    subst (IsViewSeen p.tags) f.code (each_at (λ x. IsViewSeen p.tags x.code) p.files file f.of contents.views f.stands)
+
 pub slots_are_owned : (p : Program) → AreContentsSeen p → IsCompiled p → SlotsAreOwned p
 slots_are_owned p contents compiled file c e s =
     let f = file_of p file c e in
     let is = subst (λ code. IsCode (counts p (size_of code)) code) f.code (all_at (IsFile p) p.files file f.of compiled.files f.stands).code in
-    let sees = subst (IsViewSeen p.tags) f.code (each_at (λ x. IsViewSeen p.tags x.code) p.files file f.of contents.views f.stands) in
-    ap (λ n. is_cell_in n c.view) (few_cells c is.few) ∙ view_below c.view (length c.cells) (slot_has_view p c.view c.markup s sees) is.view
+    ap (λ n. is_cell_in n c.view) (few_cells c is.few) ∙ view_below c.view (length c.cells) (slot_has_view p c.view c.markup s (component_sees p contents file c e)) is.view

@@ -23,7 +23,8 @@ use Rattle.sv_plan.specs.Patch.{After, begun, ended, planned, patched}
 use Rattle.sv_shapes.specs.Showing.{Showing, shown_of, child_at, recorded}
 use Rattle.sv_shapes.specs.declared.shape.Shape.{Shape}
 use Rattle.sv_stands.specs.Holds.{Hold}
-use Rattle.sv_stands.specs.Lent.{Any, Makes, GoesOn, IsLent, IsMade}
+use Rattle.sv_places.specs.Any.{Any}
+use Rattle.sv_stands.specs.Lent.{Makes, GoesOn, IsLent, IsMade}
 use Rattle.sv_tokens.proofs.Counting.{one-most}
 use Rattle.sv_tokens.specs.Counting.{one}
 use Rattle.sv_view.specs.Level.{View}

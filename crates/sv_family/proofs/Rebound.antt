@@ -143,3 +143,14 @@ module _ (P : Look → Type 0) (free : IsFree P) where
       by : (b : Bool) → Each P ((if b then (looks.node f).looks else looks.within (looks.let_names lets) (looks.node f).looks) []) → Each P ((looks.node f).looks [])
       by true k = k
       by false k = (frag_moves f).each (looks.let_names lets ++ []) [] k
+
+  -- and back
+  pub content_back : (lets : List LetName) (list : List Frag) → Each P (looks.of_frags list []) → Each P (looks.of_content lets list)
+  content_back lets [] h = tt
+  content_back lets (f ∷ list) h =
+      each_append P (looks.in_content (looks.let_names lets) (looks.node f) []) (looks.of_content lets list) (by (looks.node f).named (each_front P ((looks.node f).looks []) (looks.of_frags list []) h))
+      (content_back lets list (each_back P ((looks.node f).looks []) (looks.of_frags list []) h))
+    where
+      by : (b : Bool) → Each P ((looks.node f).looks []) → Each P ((if b then (looks.node f).looks else looks.within (looks.let_names lets) (looks.node f).looks) [])
+      by true k = k
+      by false k = (frag_moves f).each [] (looks.let_names lets ++ []) k

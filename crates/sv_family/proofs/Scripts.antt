@@ -1,11 +1,10 @@
 -- What scripts and changes of one instance leave of the pictures of the live instances.
-use Rattle.std.proofs.Common.{◌≡◌, ℕ, Bool, true, false, List, [], ◌∷◌, Option, Some, None, refl, sym, ap, subst, ◌∙◌}
+use Rattle.std.proofs.Common.{◌≡◌, ℕ, List, [], ◌∷◌, Option, Some, None, refl, sym, ap, subst, ◌∙◌}
 use Rattle.std.specs.Prelude.{slice_set}
 use Rattle.std.proofs.lemmas.List.{length-set}
 use Rattle.sv_code.specs.declared.program.Program.{Program}
 use Rattle.sv_family.specs.Kin.{Kins, kin_of, kins}
 use Rattle.sv_flush.proofs.Bringing.{Afterwards, Brings}
-use Rattle.sv_flush.specs.Callbacks.{callbacks_of, nowhere, called_back, all_called_back, returned, mounted_by, all_mounted, called_if, unless}
 use Rattle.sv_flush.specs.Creation.{snapshot}
 use Rattle.sv_flush.specs.Flush.{bound}
 use Rattle.sv_flush.specs.Outcome.{in_world, ended, scripted}
@@ -13,13 +12,10 @@ use Rattle.sv_flush.specs.Rounds.{Binding}
 use Rattle.sv_flush.specs.Setting.{stays, prop_of, handed, prop_set, set}
 use Rattle.sv_flush.specs.Showing.{tag_shown, tag_kept, tags_kept}
 use Rattle.sv_flush.specs.declared.page.Page.{Page}
-use Rattle.sv_frame.proofs.Altering.{Plain, pictures_stay, pictures-altered, pictures-bound, pictures-handed}
-use Rattle.sv_frame.proofs.Outcomes.{Fact, at_ends, Stays, Leaves, Left, ends_stay, if_left, unless_left, then_leaves, ends_leaves}
-use Rattle.sv_frame.proofs.Running.{called_leaves, in_turn_leaves, settle_leaves}
-use Rattle.sv_frame.proofs.Stepping.{steps_stay}
-use Rattle.sv_instance.specs.Callbacks.{with_callback}
-use Rattle.sv_instance.specs.declared.callbacks.When.{When}
-use Rattle.sv_instance.specs.declared.callbacks.When.TheVariants.{Mount, Returned}
+use Rattle.sv_frame.proofs.Altering.{Plain, pictures_setup, pictures_stay, pictures-altered, pictures-bound, pictures-handed}
+use Rattle.sv_frame.proofs.Outcomes.{at_ends, Stays, Leaves, Left, ends_stay, if_left, unless_left}
+use Rattle.sv_frame.proofs.Running.{in_turn_leaves, settle_leaves}
+use Rattle.sv_frame.proofs.Stepping.{Setups, steps_stay}
 use Rattle.sv_instance.specs.declared.instance.Instance.{Instance}
 use Rattle.sv_instance.specs.declared.setup.Setup.{Setup}
 use Rattle.sv_meaning.specs.Outcome.{Ending, Ends, Fails, Deed, then_do}
@@ -34,7 +30,6 @@ use Rattle.sv_states.specs.States.{States, with_instance}
 use Rattle.sv_states.specs.Waiting as waiting
 use Rattle.sv_states.specs.declared.error.AssignError.{AssignError}
 use Rattle.sv_states.specs.declared.error.AssignError.TheVariants.{ReadOnly, NotAStore, NoMemory}
-use Rattle.sv_value.specs.Value.{Val, undefined, null, boolean, number, text, list, object, function, store}
 use Rattle.sv_view.specs.Cell.{Cell}
 use Rattle.sv_world.specs.declared.world.World.{World}
 
@@ -43,7 +38,7 @@ sized : (i : Instance) (c : ℕ) (x : Option Cell) → kin_of (record i { cells 
 sized i c x = ap (λ n. record { place = i.place; cells = n; lent = i.owner_view }) (length-set i.cells.now c x)
 
 pub plain_kin : Plain kin_of
-plain_kin = record { setup = λ i u. refl; waits = λ i. refl; subscribed = λ i x. refl; written = sized }
+plain_kin = record { setup = λ i u e. refl; waits = λ i. refl; subscribed = λ i x. refl; written = sized }
 
 -- the pictures are these
 abbrev pub Are : Kins → States → Type 0
@@ -53,41 +48,12 @@ Are old s = kins s ≡ old
 pub are_stay : (p : Program) (old : Kins) → Stays p (at_ends (Are old))
 are_stay p old = ends_stay (steps_stay (pictures_stay plain_kin old) p)
 
+pub are_setups : (old : Kins) → Setups (Are old)
+are_setups old = pictures_setup (λ i u. refl) old
+
 -- a deed leaves them
 abbrev pub Rests : Deed (Unit {0}) → Type 0
 Rests deed = (old : Kins) → Leaves (at_ends (Are old)) deed
-
--- ---- callbacks
-
-module _ {p : Program} {P : Fact} (stay : Stays p P) where
-  back_leaves : (v : Val) → Leaves P (called_back p v)
-  back_leaves v = then_leaves (called_leaves stay v [] nowhere) (λ u. ends_leaves tt)
-
-  pub all_back_leave : (n : ℕ) (when : When) → Leaves P (all_called_back p n when)
-  all_back_leave n when = record { held = λ w h. (in_turn_leaves stay (called_back p) (callbacks_of w n when) back_leaves).held w h }
-
-  returned_leaves : (n : ℕ) (v : Val) → Leaves P (returned n v)
-  returned_leaves n (function c o held) = record { held = λ w h. stay.left w.states (λ s. record s { callbacks = with_callback Returned (function c o held) s.callbacks }) n h }
-  returned_leaves n undefined = ends_leaves tt
-  returned_leaves n null = ends_leaves tt
-  returned_leaves n (boolean b) = ends_leaves tt
-  returned_leaves n (number x) = ends_leaves tt
-  returned_leaves n (text t) = ends_leaves tt
-  returned_leaves n (list vs) = ends_leaves tt
-  returned_leaves n (object fs) = ends_leaves tt
-  returned_leaves n (store id) = ends_leaves tt
-
-  pub all_mounted_leave : (n : ℕ) → Leaves P (all_mounted p n)
-  all_mounted_leave n =
-      record { held = λ w h. (in_turn_leaves stay (mounted_by p n) (callbacks_of w n Mount) (λ v. then_leaves (called_leaves stay v [] nowhere) (returned_leaves n))).held w h }
-
-  pub called_if_leaves : (o : Option Val) → Leaves P (called_if p o)
-  called_if_leaves None = ends_leaves tt
-  called_if_leaves (Some v) = back_leaves v
-
-  pub unless_leaves : (b : Bool) {deed : Deed (Unit {0})} → Leaves P deed → Leaves P (unless b deed)
-  unless_leaves true k = ends_leaves tt
-  unless_leaves false k = k
 
 -- ---- props and bindings
 

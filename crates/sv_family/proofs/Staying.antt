@@ -1,17 +1,19 @@
 -- Instances that stay where they stand, while others are made or are lent views.
 use Rattle.std.proofs.Common.{◌≡◌, ◌⊎◌, ⊎_elim, ℕ, true, List, [], ◌∷◌, map, Option, None, Some, is_some, option_map, inl, inr, refl, sym, ap, ◌∙◌}
-use Rattle.std.proofs.lemmas.Option.{none-some}
+use Rattle.std.proofs.lemmas.Bool.{cases_eq}
+use Rattle.std.proofs.lemmas.Option.{none-some, same_Some}
 use Rattle.sv_code.proofs.Each.{each_mono}
 use Rattle.sv_code.specs.Names.{Each}
 use Rattle.sv_code.specs.declared.program.Program.{Program}
 use Rattle.sv_family.specs.Family.{AreParents, AreChildren, AreAround, AreAbove, IsShown, markup_in, holds_in, component_for}
-use Rattle.sv_family.specs.Kin.{Kin, Kins, tag_of, tag_at, tags_in, tags_now, parent_of, parent_at, IsBelow}
+use Rattle.sv_family.specs.Kin.{Kin, Kins, tag_of, tag_at, tags_in, tags_now, parent_of, parent_at, IsBelow, with_lent}
 use Rattle.sv_instance.specs.Standing.{Place}
 use Rattle.sv_meaning.specs.Components.{component_at, markup_of}
-use Rattle.sv_numbered.specs.Numbered.{at}
+use Rattle.sv_numbered.specs.Numbered.{at, altered}
 use Rattle.sv_shapes.specs.Showing.{Showing, child_at}
 use Rattle.sv_shapes.specs.declared.shown.Shown.{Shown}
-use Rattle.sv_states.proofs.Altering.{option_cases}
+use Rattle.sv_states.proofs.Altering.{option_cases, at-altered_same, at-altered_other}
+use Rattle.sv_view.specs.Level.{View}
 use Rattle.sv_view.specs.View.{insts}
 
 pub is_there : {A : Type 0} (o : Option A) → is_some o ≡ true → (x : A) × (o ≡ Some x)
@@ -28,6 +30,20 @@ pub record Still (kin : Kin) (o : Option Kin) : Type 0 where
 -- so does each
 abbrev pub Stay : Kins → Kins → Type 0
 Stay ks later = (n : ℕ) (kin : Kin) → at ks n ≡ Some kin → Still kin (at later n)
+
+-- who is lent a view stands where it stood, and so do the others
+pub lending_stays : (view : View) (ks : Kins) (n : ℕ) (kin : Kin) → at ks n ≡ Some kin → Stay ks (altered (with_lent view) ks n)
+lending_stays view ks n kin live m k e = ⊎_elim
+    (λ same.
+    let one : kin ≡ k = same_Some kin k (sym live ∙ (ap (at ks) (sym same) ∙ e)) in
+    record {
+      now = with_lent view kin;
+      is = ap (at (altered (with_lent view) ks n)) same ∙ at-altered_same (with_lent view) ks n kin live;
+      place = ap (λ (z : Kin). z.place) one;
+      cells = ap (λ (z : Kin). z.cells) one;
+    })
+    (λ other. record { now = k; is = at-altered_other (with_lent view) ks n m other ∙ e; place = refl; cells = refl })
+    (cases_eq m n)
 
 -- ---- what hangs on where an instance stands
 

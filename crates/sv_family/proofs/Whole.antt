@@ -31,7 +31,7 @@ with_one : (s : Showing) (place n next : ℕ) → AreNumbers s next → AreNumbe
 with_one s place n next h = numbers_same s (with_child s place n) next (λ q. refl) h
 
 module _ (p : Program) where
-  whole_leaves : Leaves (Whole p)
+  pub whole_leaves : Leaves (Whole p)
   whole_leaves = let f = family_leaves p in record {
     parents = λ pend new leaving ks s next h. f.parents pend new leaving ks s next h.0;
     child_of = λ pend leaving n place d ks s next before some there h. f.child_of pend leaving n place d ks s next before some there h.0;
@@ -42,7 +42,7 @@ module _ (p : Program) where
     goes = λ pend leaving n ks s next before earlier none h. (f.goes pend leaving n ks s next before earlier none h.0, numbers_gone s n next h.0.sorted h.1, filled_goes p pend leaving n ks s next before earlier none h.0 h.2);
   }
 
-  whole_passes : Passes p (Whole p)
+  pub whole_passes : Passes p (Whole p)
   whole_passes = let f = family_passes p in record {
     ends = λ pend q ks s next h. (f.ends pend q ks s next h.0, h.1, filled_ends p pend q ks s h.2);
     sets = λ pend q place props view es ks s next h. (f.sets pend q place props view es ks s next h.0, h.1, filled_sets p pend q place props view es ks s h.2);
@@ -51,7 +51,7 @@ module _ (p : Program) where
     ascend = λ pend new leaving ks s next h. f.ascend pend new leaving ks s next h.0;
   }
 
-  whole_makes : Makes p (Whole p)
+  pub whole_makes : Makes p (Whole p)
   whole_makes = let f = family_makes p in record {
     for_create = λ pend q place t props view es ks s next h. f.for_create pend q place t props view es ks s next h.0;
     for_set = λ pend q place props view es ks s next h. f.for_set pend q place props view es ks s next h.0;
@@ -67,7 +67,7 @@ module _ (p : Program) where
     spares = λ pend n kin ks s next live takes h. (f.spares pend n kin ks s next live takes h.0, h.1, h.2);
   }
 
-  whole_shows : SlotsAreOwned p → Shows p (Whole p)
+  pub whole_shows : SlotsAreOwned p → Shows p (Whole p)
   whole_shows owned = record {
     shows = λ pend n kin view ks s counters tally after live now before e h. (
       (family_shows p owned).shows pend n kin view ks s counters tally after live now before e h.0,

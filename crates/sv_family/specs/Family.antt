@@ -21,7 +21,8 @@ use Rattle.sv_shapes.specs.Places.{places_all}
 use Rattle.sv_shapes.specs.Showing.{Showing, shown_of, child_at}
 use Rattle.sv_shapes.specs.declared.shown.Shown.{Shown}
 use Rattle.sv_stands.specs.Holds.{Hold, holds}
-use Rattle.sv_stands.specs.Lent.{Any, IsFor, Makes}
+use Rattle.sv_places.specs.Any.{Any}
+use Rattle.sv_stands.specs.Lent.{IsFor, Makes}
 use Rattle.sv_stands.specs.Standing.{OwnersFor, content_in}
 use Rattle.sv_states.specs.declared.states.TheConstants.{DEPTH_LIMIT}
 use Rattle.sv_tokens.specs.Counting.{one}

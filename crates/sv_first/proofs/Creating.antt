@@ -1,21 +1,20 @@
 -- Instances that are made, one below the other: each is shown once, on the view that its present cells and the lent view give.
 use Rattle.std.proofs.Common.{◌≡◌, ℕ, zero, suc, ◌<◌, true, List, [], ◌∷◌, length, Option, Some, None, option_map, Result, Ok, Err, refl, sym, ap, subst, ◌∙◌, slice_get, inr, ⊎_elim}
-use Rattle.std.proofs.lemmas.List.{get_or_push}
 use Rattle.std.proofs.lemmas.Option.{none-some, same_Some}
 use Rattle.sv_code.specs.Names.{Each}
 use Rattle.sv_code.specs.declared.program.Component.{Component}
 use Rattle.sv_code.specs.declared.program.Program.{Program}
 use Rattle.sv_code.specs.declared.tags.Tag.{Tag}
-use Rattle.sv_family.proofs.Births.{readied_keeps, Births, made_then, child_held, unseen_child, none_made}
+use Rattle.sv_family.proofs.Births.{readied_keeps, Births, made_then, child_held, unseen_child, none_made, Born, New, born_placed, just_born}
 use Rattle.sv_family.proofs.Born.{none_before}
-use Rattle.sv_family.proofs.Course.{Course, born_kin, child_place, root_place, with_born}
+use Rattle.sv_family.proofs.Course.{Course, child_place, root_place, with_born}
 use Rattle.sv_family.proofs.Creating.{run_opens}
 use Rattle.sv_family.proofs.Declaring.{opens}
 use Rattle.sv_family.proofs.Pictures.{Pictured, pictured, tags-same, markup-same, next-same, kins-added, kin_at, IsUnseen, unseen-setup, IsOpened, lent_either}
-use Rattle.sv_family.proofs.Scripts.{About, At, are_stay, scripted_brings, world_brings, same_at, kins-setup, kins-tags}
+use Rattle.sv_family.proofs.Scripts.{About, At, are_setups, are_stay, scripted_brings, world_brings, kins-setup, kins-tags}
 use Rattle.sv_family.proofs.Whole.{Whole, whole_course}
-use Rattle.sv_family.specs.Family.{HasHold, IsShown, markup_in}
-use Rattle.sv_family.specs.Kin.{Kin, Kins, kin_of, kins, depth_at}
+use Rattle.sv_family.specs.Family.{IsShown, markup_in}
+use Rattle.sv_family.specs.Kin.{Kins, kin_of, kins, depth_at}
 use Rattle.sv_family.specs.Owners.{SlotsAreOwned}
 use Rattle.sv_family.specs.Pending.{Pending, AreBefore}
 use Rattle.sv_first.proofs.Facts.{First, all_born, all_lent}
@@ -27,6 +26,7 @@ use Rattle.sv_flush.specs.Setting.{lent, lent_if}
 use Rattle.sv_flush.specs.Showing.{tags_of, recorded, followed, patched_on, patched_now, shown}
 use Rattle.sv_flush.specs.declared.page.Page.{Page}
 use Rattle.sv_frame.proofs.Running.{modules_leave, top_leaves}
+use Rattle.sv_frame.proofs.Stepping.{sets_by}
 use Rattle.sv_instance.specs.declared.instance.Instance.{Instance}
 use Rattle.sv_meaning.specs.Components.{component_at, component_of, markup_of}
 use Rattle.sv_numbered.specs.Numbered.{at}
@@ -41,7 +41,6 @@ use Rattle.sv_shapes.specs.declared.shown.Shown.{Shown}
 use Rattle.sv_states.specs.States.{live}
 use Rattle.sv_states.specs.declared.states.TheConstants.{DEPTH_LIMIT}
 use Rattle.sv_view.specs.Level.{View}
-use Rattle.sv_world.specs.Setup.{set_up}
 use Rattle.sv_world.specs.World.{present_view}
 use Rattle.std.proofs.lemmas.Bool.{cases_eq}
 
@@ -112,17 +111,12 @@ module _ (p : Program) (owned : SlotsAreOwned p) where
   -- ---- a child that was made just now
 
   module _ (pend : Pending) (q place : ℕ) (view : View) (n : ℕ) where
-    -- it stands at its place, and wasn't lent its owner's view yet
-    record New (ks : Kins) (s : Showing) (next : ℕ) : Type 0 where
-      kin : Kin
-      there : at ks n ≡ Some kin
-      fact : First p pend (Some n) [] ks s next
-      hold : HasHold p ks s q place view
-      stands : child_at s place ≡ Some n
+    abbrev Newly : About
+    Newly = New p (First p) pend q place view n
 
-    lent_new : Brings (λ m. At New m × IsOpened p n m.world.states) (At (Fresh pend n)) (in_world (lent_if p n (Some view)))
+    lent_new : Brings (λ m. At Newly m × IsOpened p n m.world.states) (At (Fresh pend n)) (in_world (lent_if p n (Some view)))
     lent_new = record { held = λ m h. by m h.0 h.1 (pictured m.world.states n h.0.kin h.0.there) } where
-      by : (m : Page) (h : At New m) → IsOpened p n m.world.states → Pictured m.world.states n h.kin → At (Fresh pend n) (record m { world = lent p n view m.world })
+      by : (m : Page) (h : At Newly m) → IsOpened p n m.world.states → Pictured m.world.states n h.kin → At (Fresh pend n) (record m { world = lent p n view m.world })
       by m h ready i =
           let ks : Kins = kins m.world.states in
           let there : at ks n ≡ Some (kin_of i.instance) = kin_at m.world.states n (Some i.instance) i.live_is in
@@ -139,35 +133,23 @@ module _ (p : Program) (owned : SlotsAreOwned p) where
           ))
           (lent_either p n view m.world i.instance i.live_is)
 
-    new_started : (props : List Given) → AreBefore n pend → (run : Effect → Task) → Runs pend n run → Brings (λ m. At New m × IsUnseen n m.world.states) (At (Calm pend)) (started p (each run) n props (Some view))
+    new_started : (props : List Given) → AreBefore n pend → (run : Effect → Task) → Runs pend n run → Brings (λ m. At Newly m × IsUnseen n m.world.states) (At (Calm pend)) (started p (each run) n props (Some view))
     new_started props before run runs =
-        brings_then (brings_then (run_opens p (opens p) New n (passed props)) (λ _. brings_then lent_new (λ _. nothing_brings))) (λ _. rest_keeps pend n before run runs)
+        brings_then (brings_then (run_opens p (opens p) Newly n (passed props)) (λ _. brings_then lent_new (λ _. nothing_brings))) (λ _. rest_keeps pend n before run runs)
 
-  -- it was made, and isn't placed yet
   module _ (pend : Pending) (q place : ℕ) (view : View) (n : ℕ) where
-    record Born (ks : Kins) (s : Showing) (next : ℕ) : Type 0 where
-      kin : Kin
-      there : at ks n ≡ Some kin
-      fact : First p pend (Some n) [] ks (with_child s place n) next
-      hold : HasHold p ks (with_child s place n) q place view
-      before : AreBefore n pend
-
-    -- nor was it ever shown
+    -- it isn't placed yet, nor was it ever shown
     abbrev IsBorn : Page → Type 0
-    IsBorn m = At Born m × IsUnseen n m.world.states
+    IsBorn m = At (Born p (First p) pend q place view n) m × IsUnseen n m.world.states
 
-    born_placed : (m : Page) → IsBorn m → At (New pend q place view n) (placed place view n m) × IsUnseen n (placed place view n m).world.states
-    born_placed m k = let h = k.0 in (
-      same_at (New pend q place view n) (record m { showing = with_child m.showing place n }) (set_up (λ s. record s { locals = view.own.locals }) m.world n) (kins-setup m.world.states (λ s. record s { locals = view.own.locals }) n)
-          (record { kin = h.kin; there = h.there; fact = h.fact; hold = h.hold; stands = found-put m.showing.children place n }),
-      unseen-setup m.world.states (λ s. record s { locals = view.own.locals }) n k.1,
-    )
+    unseen_placed : (m : Page) → IsBorn m → At (New p (First p) pend q place view n) (placed place view n m) × IsUnseen n (placed place view n m).world.states
+    unseen_placed m h = (born_placed p (First p) pend q place view n m h.0, unseen-setup m.world.states (λ s. record s { locals = view.own.locals }) n h.1)
 
     born_grown : (run : ℕ → Effect → Task) (props : List Given) (t : Tag) → Runs pend n (run n) → Brings IsBorn (At (Calm pend)) (grown p (λ n. each (run n)) place props view t n)
     born_grown run props t runs = record { held = λ m h. (whole h.0.before).held m h } where
       whole : AreBefore n pend → Brings IsBorn (At (Calm pend)) (grown p (λ n. each (run n)) place props view t n)
       whole before =
-          brings_then (changed_brings {Q = IsBorn} {R = λ m. At (New pend q place view n) m × IsUnseen n m.world.states} (placed place view n) born_placed) (λ _.
+          brings_then (changed_brings {Q = IsBorn} {R = λ m. At (New p (First p) pend q place view n) m × IsUnseen n m.world.states} (placed place view n) unseen_placed) (λ _.
           brings_then (new_started pend q place view n props before (run n) runs) (λ _.
           brings_then (world_brings (Calm pend) (attached n) (λ w. kins-setup w.states (λ s. record s { attached = true }) n)) (λ _.
           brings_then (changed_brings {Q = At (Calm pend)} {R = At (Calm pend)} (binds p t n view.own.inst) (λ m h. h)) (λ _. nothing_brings))))
@@ -182,23 +164,18 @@ module _ (p : Program) (owned : SlotsAreOwned p) where
     Rest = (q, es) ∷ pend
 
     child_born : (c : Component) → component_at p tag.file ≡ Some c → (ks : Kins) (s : Showing) (next : ℕ) → depth_at ks q < DEPTH_LIMIT → Creating ks s next
-        → Born Rest q place view (length ks) (with_born ks (child_place ks tag q k view) (cell_count c)) s next
+        → Born p (First p) Rest q place view (length ks) (with_born ks (child_place ks tag q k view) (cell_count c)) s next
     child_born c comp ks s next shallow h =
         let made = course.makes.makes pend q place k props view es ks s next tag c is comp shallow h.0 in
-        record {
-          kin = born_kin (child_place ks tag q k view) (cell_count c);
-          there = get_or_push ks (Some (born_kin (child_place ks tag q k view) (cell_count c))) None (length ks) refl;
-          fact = (made.0, all_born p ks (child_place ks tag q k view) (cell_count c) s (with_child s place (length ks)) h.0.0.parents h.0.0.shown (stood s place (length ks)) (λ n. refl) h.1);
-          hold = made.1;
-          before = (course.passes.ascend ((q, effect.Create place k props view ∷ es) ∷ pend) None [] ks s next h.0).1;
-        }
+        just_born p (First p) Rest q place view (child_place ks tag q k view) (cell_count c) ks s next (course.passes.ascend ((q, effect.Create place k props view ∷ es) ∷ pend) None [] ks s next h.0).1
+        ((made.0, all_born p ks (child_place ks tag q k view) (cell_count c) s (with_child s place (length ks)) h.0.0.parents h.0.0.shown (stood s place (length ks)) (λ n. refl) h.1), made.1)
 
-    born_child : Births p (site_of q k view tag) Creating (IsBorn Rest q place view)
-    born_child c comp m fits h = (child_held p q k view tag Creating (Born Rest q place view) c (child_born c comp) m fits h, unseen_child p q k view tag c m)
+    born_child : Births p (site_of q k view tag) (At Creating) (IsBorn Rest q place view)
+    born_child c comp m fits h = (child_held p q k view tag Creating (Born p (First p) Rest q place view) c (child_born c comp) m fits h, unseen_child p q k view tag c m)
 
     created_keeps : (run : ℕ → Effect → Task) → ((n : ℕ) → Runs Rest n (run n)) → Brings (At Creating) (At (Calm Rest)) (created p (λ n. each (run n)) q place k props view tag)
     created_keeps run runs =
-        made_then p (site_of q k view tag) Creating (Calm Rest) (IsBorn Rest q place view)
+        made_then p (site_of q k view tag) (At Creating) (At (Calm Rest)) (IsBorn Rest q place view) (λ m left h. h)
         (λ none m h. (course.passes.creates pend q place k props view es (kins m.world.states) m.showing m.counters.next (none_made p q k view tag is none) h.0, h.1))
         born_child (λ n. born_grown Rest q place view n run props tag (runs n))
 
@@ -240,10 +217,10 @@ module _ (p : Program) (owned : SlotsAreOwned p) where
 
   root_started : (n : ℕ) → Brings (At (Fresh [] n)) (At (Calm [])) (started p (effects DEPTH_LIMIT p n) n [] None)
   root_started n =
-      brings_then (brings_then (scripted_brings (Fresh [] n) (λ old. top_leaves (are_stay p old) n (passed []))) (λ _. brings_then (world_brings (Fresh [] n) (lent_if p n None) (λ w. refl)) (λ _. nothing_brings))) (λ _.
+      brings_then (brings_then (scripted_brings (Fresh [] n) (λ old. top_leaves (are_stay p old) n (sets_by (are_setups old) n) (passed []))) (λ _. brings_then (world_brings (Fresh [] n) (lent_if p n None) (λ w. refl)) (λ _. nothing_brings))) (λ _.
       rest_keeps [] n tt (effect_by p (created_in DEPTH_LIMIT p) n) (effects_keep DEPTH_LIMIT [] n))
 
-  born_root : Births p root_site (Calm []) (λ n. At (Fresh [] n))
+  born_root : Births p root_site (At (Calm [])) (λ n. At (Fresh [] n))
   born_root c comp m fits h =
       let ks : Kins = kins m.world.states in
       subst (λ n. Fresh [] n (kins (born_at root_site c m.world).states) m.showing m.counters.next) (sym (next-same m.world))
@@ -253,4 +230,4 @@ module _ (p : Program) (owned : SlotsAreOwned p) where
   pub first_mounts : Brings (At (Calm [])) (At (Calm [])) (mounted p)
   unfolding mounted
   first_mounts =
-      brings_then (scripted_brings (Calm []) (λ old. modules_leave (are_stay p old))) (λ _. made_then p root_site (Calm []) (Calm []) (λ n. At (Fresh [] n)) (λ none m h. h) born_root root_started)
+      brings_then (scripted_brings (Calm []) (λ old. modules_leave (are_stay p old) (λ ms ms' s h. h))) (λ _. made_then p root_site (At (Calm [])) (At (Calm [])) (λ n. At (Fresh [] n)) (λ m left h. h) (λ none m h. h) born_root root_started)

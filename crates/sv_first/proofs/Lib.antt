@@ -1,5 +1,5 @@
 mod Facts
 mod Patches
 mod Creating
-mod Slots
-mod Pages
+pub mod Slots
+pub mod Pages

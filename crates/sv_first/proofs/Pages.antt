@@ -6,7 +6,7 @@ use Rattle.sv_agree.specs.Agreeing.{AgreesFor, AgreesAbove, slot_within}
 use Rattle.sv_agree.specs.Scopes.{everything}
 use Rattle.sv_alike.proofs.Throughout.{throughout}
 use Rattle.sv_alike.specs.Alike.{HasViews, IsChildAlike, AreEachAlike, markup_in as markup_at}
-use Rattle.sv_alike.specs.Views.{evaluated, evaluated_page, page_in}
+use Rattle.sv_alike.specs.Views.{Views, evaluated, evaluated_page, page_in}
 use Rattle.sv_code.specs.Content.{AreContentsSeen}
 use Rattle.sv_code.specs.Names.{Each}
 use Rattle.sv_code.specs.Parts.{of_frags}
@@ -19,7 +19,7 @@ use Rattle.sv_family.proofs.Numbering.{numbers_blank}
 use Rattle.sv_family.proofs.Owning.{slots_are_owned}
 use Rattle.sv_family.proofs.Pictures.{Pictured, pictured, tags-same, markup-same}
 use Rattle.sv_family.proofs.Staying.{is_there, child_live}
-use Rattle.sv_family.specs.Family.{Family, HaveCells, HoldIsKept, IsShown, component_for, markup_in, holds_in}
+use Rattle.sv_family.specs.Family.{AreParents, Family, HaveCells, HoldIsKept, IsShown, component_for, markup_in, holds_in}
 use Rattle.sv_family.specs.Kin.{Kin, Kins, kins, tag_at, tags_in, tags_now, parent_of, parent_at, is_lent, takes_view}
 use Rattle.sv_family.specs.Owners.{SlotsAreOwned}
 use Rattle.sv_first.proofs.Creating.{first_mounts}
@@ -64,29 +64,44 @@ unshown_nodes p w s (suc room) e =
     ap (λ o. viewed (option_map (λ (x : Shown). started 1 [] None) o) (λ v. walker (page_in Recorded p w s 1) (instance_nodes (page_in Recorded p w s 1) room) (None ∷ []) (slotted (page_in Recorded p w s 1) (instance_nodes (page_in Recorded p w s 1) room) (None ∷ []))
     (scene_markup (page_in Recorded p w s 1) 1) v (parts_at (page_in Recorded p w s 1) 1))) e
 
-unseen_nodes : (p : Program) (w : World) (s : Showing) (room : ℕ) → shown_of s 1 ≡ None → evaluated (page_in Evaluated p w s 1) (seen_views s) room (None ∷ []) None 1 ≡ []
+-- nor is anything evaluated of one that has no view
+unviewed_nodes : (p : Program) (w : World) (s : Showing) (views : Views) (room : ℕ) → views None 1 ≡ None → evaluated (page_in Evaluated p w s 1) views room (None ∷ []) None 1 ≡ []
 unfolding evaluated
-unseen_nodes p w s zero e = refl
-unseen_nodes p w s (suc room) e =
-    ap (λ o. viewed (option_map (seen_before None) o) (λ v. walker (page_in Evaluated p w s 1) (evaluated (page_in Evaluated p w s 1) (seen_views s) room) (None ∷ []) (slotted (page_in Evaluated p w s 1) (evaluated (page_in Evaluated p w s 1) (seen_views s) room) (None ∷ []))
+unviewed_nodes p w s views zero e = refl
+unviewed_nodes p w s views (suc room) e =
+    ap (λ o. viewed o (λ v. walker (page_in Evaluated p w s 1) (evaluated (page_in Evaluated p w s 1) views room) (None ∷ []) (slotted (page_in Evaluated p w s 1) (evaluated (page_in Evaluated p w s 1) views room) (None ∷ []))
     (scene_markup (page_in Evaluated p w s 1) 1) v (parts_at (page_in Evaluated p w s 1) 1))) e
 
-empty_drawn : (p : Program) (w : World) (s : Showing) → shown_of s 1 ≡ None → drawn p w s ≡ []
+pub empty_drawn : (p : Program) (w : World) (s : Showing) → shown_of s 1 ≡ None → drawn p w s ≡ []
 unfolding drawn page_nodes
 empty_drawn p w s e = unshown_nodes p w s DEPTH_LIMIT e
 
-empty_evaluated : (p : Program) (w : World) (s : Showing) → shown_of s 1 ≡ None → evaluated_page p w s (seen_views s) ≡ []
+pub empty_evaluated : (p : Program) (w : World) (s : Showing) (views : Views) → views None 1 ≡ None → evaluated_page p w s views ≡ []
 unfolding evaluated_page
-empty_evaluated p w s e = unseen_nodes p w s DEPTH_LIMIT e
+empty_evaluated p w s views e = unviewed_nodes p w s views DEPTH_LIMIT e
 
 -- ---- who is lent a view
 
 -- where a slot stands in the markup of an instance, it has a cell for its owner's view
-slot_lends : (p : Program) → SlotsAreOwned p → (ks : Kins) → HaveCells p ks → (n : ℕ) (kin : Kin) (depth : ℕ) → at ks n ≡ Some kin → slot_within p depth (markup_in p ks n) ≡ true → is_lent p kin ≡ true
+pub slot_lends : (p : Program) → SlotsAreOwned p → (ks : Kins) → HaveCells p ks → (n : ℕ) (kin : Kin) (depth : ℕ) → at ks n ≡ Some kin → slot_within p depth (markup_in p ks n) ≡ true → is_lent p kin ≡ true
 slot_lends p owned ks cells n kin depth live e = by (component_at p kin.place.component) refl (subst (λ o. slot_within p depth (markup_of (component_for p o)) ≡ true) live e) where
   by : (c : Option Component) → component_at p kin.place.component ≡ c → slot_within p depth (markup_of c) ≡ true → takes_view c kin.cells ≡ true
   by None is q = absurd (true≢false (sym q))
   by (Some c) is q = subst (λ k. takes_view (Some c) k ≡ true) (sym (cells n kin c live is)) (owned kin.place.component c is (found p depth c.markup q))
+
+-- ---- who has no tag
+
+-- the root, for it has no parent: nobody has a lower number
+pub root_tag : (ks : Kins) → AreParents ks → at ks 0 ≡ None → tag_at ks 1 ≡ None
+root_tag ks parents nobody = by (tag_at ks 1) refl where
+  first : (q : ℕ) → parent_at ks 1 ≡ Some q → q ≡ 0
+  first q e = let k = parents.earlier 1 q e in omega (arith, k)
+
+  by : (o : Option ℕ) → tag_at ks 1 ≡ o → o ≡ None
+  by None e = refl
+  by (Some k) e =
+      let q = is_there (parent_at ks 1) (parents.tagged 1 k e) in
+      absurd (true≢false (sym (sym (ap is_some nobody) ∙ (ap (λ z. is_some (at ks z)) (sym (first q.0 q.1)) ∙ parents.live 1 q.0 q.1))))
 
 module _ (p : Program) (owned : SlotsAreOwned p) (m : Page) (within : ArePartsWithin p) (keys : AreAllKeysSeen p) (right : AreShownRight p m) (records : RecordsSeen m)
     (f : Family p [] None [] (kins m.world.states) m.showing m.counters.next) (on : AreOn p (kins m.world.states) m.showing) where
@@ -186,22 +201,10 @@ module _ (p : Program) (owned : SlotsAreOwned p) (m : Page) (within : ArePartsWi
 
   -- ---- the root
 
-  -- it has no parent, for nobody has a lower number
-  root_tag : tag_at ks 1 ≡ None
-  root_tag = by (tag_at ks 1) refl where
-    first : (q : ℕ) → parent_at ks 1 ≡ Some q → q ≡ 0
-    first q e = let k = f.parents.earlier 1 q e in omega (arith, k)
-
-    by : (o : Option ℕ) → tag_at ks 1 ≡ o → o ≡ None
-    by None e = refl
-    by (Some k) e =
-        let q = is_there (parent_at ks 1) (f.parents.tagged 1 k e) in
-        absurd (true≢false (sym (sym (ap is_some on.nobody) ∙ (ap (λ z. is_some (at ks z)) (sym (first q.0 q.1)) ∙ f.parents.live 1 q.0 q.1))))
-
   root_tags : (x : Shown) → shown_of m.showing 1 ≡ Some x → (rest : List (Option ℕ)) × (tags_of m.world x.view ≡ None ∷ rest)
   root_tags x is =
       let k = f.shown 1 x is in
-      (map (tag_at ks) (map (λ l. l.inst) (levels_of k.kin.lent)), same_tags x.view ∙ (k.tags ∙ ap (λ t. t ∷ map (tag_at ks) (map (λ l. l.inst) (levels_of k.kin.lent))) root_tag))
+      (map (tag_at ks) (map (λ l. l.inst) (levels_of k.kin.lent)), same_tags x.view ∙ (k.tags ∙ ap (λ t. t ∷ map (tag_at ks) (map (λ l. l.inst) (levels_of k.kin.lent))) (root_tag ks f.parents on.nobody)))
 
   root_agrees : (x : Shown) → shown_of m.showing 1 ≡ Some x → (v : View) → seen_views m.showing None 1 ≡ Some v → (depth : ℕ) →
       AgreesFor p depth everything (tags_of m.world x.view) (None ∷ []) (markup_at p m.world 1) x.view v
@@ -211,7 +214,7 @@ module _ (p : Program) (owned : SlotsAreOwned p) (m : Page) (within : ArePartsWi
       (subst (λ ts. AgreesFor p depth everything ts (None ∷ []) (markup_at p m.world 1) x.view (seen_before None x)) (sym t.1) (same_at p everything x.view.own x.view.owners [] x.view.modules, λ slot. refl))
 
   seen_page : AreContentsSeen p → (o : Option Shown) → shown_of m.showing 1 ≡ o → drawn p m.world m.showing ≡ evaluated_page p m.world m.showing (seen_views m.showing)
-  seen_page seen None e = empty_drawn p m.world m.showing e ∙ sym (empty_evaluated p m.world m.showing e)
+  seen_page seen None e = empty_drawn p m.world m.showing e ∙ sym (empty_evaluated p m.world m.showing (seen_views m.showing) (ap (option_map (seen_before None)) e))
   seen_page seen (Some x) e =
       throughout p m.world (tags_of m.world) m.showing (seen_views m.showing) within seen (record { each = each_alike; root = record { shown = x; is = e; agrees = root_agrees x e } })
 

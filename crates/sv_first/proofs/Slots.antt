@@ -11,7 +11,7 @@ use Rattle.sv_code.specs.declared.fragments.Frag.{Frag}
 use Rattle.sv_code.specs.declared.program.Program.{Program}
 use Rattle.sv_code.specs.declared.tags.Tag.{Tag}
 use Rattle.sv_family.proofs.Holding.{any_mono}
-use Rattle.sv_stands.specs.Lent.{Any}
+use Rattle.sv_places.specs.Any.{Any}
 use Rattle.sv_stands.specs.Standing.{HasSlot, here, inside, OwnersFor, content_of}
 use Rattle.sv_value.specs.Value.{Val}
 use Rattle.sv_view.specs.Level.{Level}
