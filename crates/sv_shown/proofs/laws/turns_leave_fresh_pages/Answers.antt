@@ -1,0 +1,6 @@
+use Rattle.sv_shown.proofs.Turning.{run_fresh}
+use Rattle.sv_shown.proofs.Whole.{shown_course}
+use Rattle.sv_shown.proofs.laws.turns_leave_fresh_pages.Goals as goal
+
+pub returns : goal.returns
+returns c = λ p events compiled keys. run_fresh p compiled (λ ms. shown_course p ms compiled keys) keys events
