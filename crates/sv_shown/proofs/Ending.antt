@@ -68,11 +68,11 @@ lent_last p x i cells still c view = ⊎_elim
 -- ---- views
 
 -- what has a cell for its owner's view
-record HasCell (o : Option Component) : Type 0 where
-  cell : ℕ
-  is : view_in o ≡ Some cell
+pub record HasCell (o : Option Component) : Type 0 where
+  pub cell : ℕ
+  pub is : view_in o ≡ Some cell
 
-cell_of : (o : Option Component) (cells : ℕ) → takes_view o cells ≡ true → HasCell o
+pub cell_of : (o : Option Component) (cells : ℕ) → takes_view o cells ≡ true → HasCell o
 cell_of None cells e = absurd (true≢false (sym e))
 cell_of (Some c) cells e = by c.view refl e where
   by : (v : Option ℕ) → c.view ≡ v → is_cell_in cells v ≡ true → HasCell (Some c)
@@ -80,7 +80,7 @@ cell_of (Some c) cells e = by c.view refl e where
   by (Some n) is k = record { cell = n; is = is }
 
 -- views of the same own level agree
-same_view : (p : Program) (v v' : View) → v.own ≡ v'.own → v.modules ≡ v'.modules → AgreesAt everything v v'
+pub same_view : (p : Program) (v v' : View) → v.own ≡ v'.own → v.modules ≡ v'.modules → AgreesAt everything v v'
 same_view p v v' own modules =
     subst (λ l. AgreesAt everything v (record { own = l; owners = v'.owners; modules = v'.modules })) own
     (subst (λ ms. AgreesAt everything v (record { own = v.own; owners = v'.owners; modules = ms })) modules (same_at p everything v.own v.owners v'.owners v.modules))
@@ -93,14 +93,14 @@ module _ (p : Program) (m : Page) (compiled : IsCompiled p) (keys : AreAllKeysSe
   family = h.family.0
 
   -- an instance is shown on its present cells and constants, and before the view that it was lent last, where it has a cell for that
-  record IsPresently (n : ℕ) (x : Shown) : Type 0 where
-    instance : Instance
-    there : live m.world.states n ≡ Some instance
-    own : x.view.own ≡ (present_view m.world.modules n instance).own
-    modules : x.view.modules ≡ m.world.modules
-    owners : (c : ℕ) → view_in (component_at p instance.place.component) ≡ Some c → x.view.owners ≡ levels_of instance.owner_view
+  pub record IsPresently (n : ℕ) (x : Shown) : Type 0 where
+    pub instance : Instance
+    pub there : live m.world.states n ≡ Some instance
+    pub own : x.view.own ≡ (present_view m.world.modules n instance).own
+    pub modules : x.view.modules ≡ m.world.modules
+    pub owners : (c : ℕ) → view_in (component_at p instance.place.component) ≡ Some c → x.view.owners ≡ levels_of instance.owner_view
 
-  presently : (n : ℕ) (x : Shown) → shown_of m.showing n ≡ Some x → IsPresently n x
+  pub presently : (n : ℕ) (x : Shown) → shown_of m.showing n ≡ Some x → IsPresently n x
   presently n x is =
       let s = family.shown n x is in
       let i = pictured m.world.states n s.kin s.live in

@@ -13,25 +13,30 @@ use Rattle.sv_flush.specs.Page.{begun, blank}
 use Rattle.sv_flush.specs.Records.{ShowsPresent}
 use Rattle.sv_flush.specs.Rounds.{no_rounds}
 use Rattle.sv_flush.specs.declared.page.Page.{Page}
+use Rattle.sv_course.specs.Watched.{AreWatched}
+use Rattle.sv_shapes.specs.Showing.{shown_of}
 use Rattle.sv_shown.proofs.Beginning.{nobody_there}
 use Rattle.sv_shown.proofs.Ending.{true_is_fresh}
 use Rattle.sv_shown.proofs.Mounting.{Knows, mounted_known}
 use Rattle.sv_shown.proofs.Whole.{Shown}
-use Rattle.sv_shown.specs.Fresh.{IsFresh}
+use Rattle.sv_shown.proofs.Now.{are_right}
+use Rattle.sv_shown.specs.Fresh.{IsTrue, IsFresh, AreRightNow}
 use Rattle.sv_shown.specs.True.{Modules, AreTrue}
 use Rattle.sv_within.specs.Keys.{AreAllKeysSeen}
 
 module _ (p : Program) (compiled : IsCompiled p) (keys : AreAllKeysSeen p) where
-  pub known_fresh : (m : Page) → Knows p m → ShowsPresent m → IsFresh p m
-  known_fresh m h present =
-      let ms = h.0 in
-      let all = h.1.0.0 in
-      let watched = h.1.0.1 in
-      true_is_fresh p m compiled keys
-      (record { family = all.0; all = subst (λ now. AreTrue p now [] (kins m.world.states) m.showing m.counters.next) (sym watched.1.0.1) all.1 })
-      present
-      (are_watched p m.world.modules m.showing.shown m.world.modules m.world.states (watching_of p ms m watched))
-      (nobody_there (kins m.world.states) h.1.1)
+  module _ (m : Page) (h : Knows p m) where
+    all_true : IsTrue p m
+    all_true = record { family = h.1.0.0.0; all = subst (λ now. AreTrue p now [] (kins m.world.states) m.showing m.counters.next) (sym h.1.0.1.1.0.1) h.1.0.0.1 }
+
+    all_watched : AreWatched p m.world.modules (shown_of m.showing) m.world.states
+    all_watched = are_watched p m.world.modules m.showing.shown m.world.modules m.world.states (watching_of p h.0 m h.1.0.1)
+
+    pub known_fresh : ShowsPresent m → IsFresh p m
+    known_fresh present = true_is_fresh p m compiled keys all_true present all_watched (nobody_there (kins m.world.states) h.1.1)
+
+    pub known_right : ShowsPresent m → AreRightNow p m
+    known_right present = are_right p m compiled keys all_true present all_watched
 
   -- where nobody waits, what was seen is what is there
   shows_present : (m : Page) → Knows p m → m.world.states.queue ≡ [] → ShowsPresent m

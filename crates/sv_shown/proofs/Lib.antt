@@ -17,5 +17,6 @@ pub mod Laying
 pub mod Beginning
 pub mod Ending
 pub mod Mounting
+pub mod Now
 pub mod First
 pub mod Turning

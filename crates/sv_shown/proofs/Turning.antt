@@ -37,11 +37,11 @@ use Rattle.sv_shapes.specs.Showing.{Showing, shown_of, laid_in, laid_on}
 use Rattle.sv_shapes.specs.Typed.{laid_all}
 use Rattle.sv_shapes.specs.declared.shown.Shown as shown
 use Rattle.sv_shown.proofs.Beginning.{BeginWithNobody, flushed_begins}
-use Rattle.sv_shown.proofs.First.{known_fresh}
+use Rattle.sv_shown.proofs.First.{known_fresh, known_right}
 use Rattle.sv_shown.proofs.Laying.{true_lays}
 use Rattle.sv_shown.proofs.Mounting.{Holds, Known, Knows, known_some, known_with, mounted_known}
 use Rattle.sv_shown.proofs.Whole.{Shown, shown_sorted}
-use Rattle.sv_shown.specs.Fresh.{LeavesFresh}
+use Rattle.sv_shown.specs.Fresh.{LeavesFresh, LeavesRight}
 use Rattle.sv_shown.specs.True.{Modules}
 use Rattle.sv_states.specs.States.{States}
 use Rattle.sv_tokens.specs.declared.element.Typed.{Typed}
@@ -136,6 +136,14 @@ module _ (p : Program) (compiled : IsCompiled p) (course : (ms : Modules) → Co
     leaves_fresh (Done target m) h current = known_fresh p compiled keys m h current.present
     leaves_fresh (Halted r m) h current = tt
 
+    leaves_right : (o : Outcome Bool) → Leaves o → LeavesCurrent p o → LeavesRight p o
+    leaves_right (Done target m) h current = known_right p compiled keys m h current.present
+    leaves_right (Halted r m) h current = tt
+
     -- behind each turn that isn't refused the page that is recorded is the fresh one
     pub run_fresh : (events : List Event) → All (LeavesFresh p) (run p events)
     run_fresh events k d below = leaves_fresh (get_or (run p events) k d) (run_known events k d below) (run_current p events k d below)
+
+    -- and what is held is right
+    pub run_right : (events : List Event) → All (LeavesRight p) (run p events)
+    run_right events k d below = leaves_right (get_or (run p events) k d) (run_known events k d below) (run_current p events k d below)
