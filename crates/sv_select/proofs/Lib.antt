@@ -1,0 +1,4 @@
+pub mod Cutting
+pub mod Ascii
+pub mod Exits
+pub mod Parting

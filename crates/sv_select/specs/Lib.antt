@@ -1,0 +1,5 @@
+pub mod Borders
+pub mod Words
+pub mod Compound
+pub mod Grammar
+pub mod Reads
