@@ -14,10 +14,12 @@ use serde_json::{Map, Value};
 use std::alloc::Global;
 use sv_base::{NoMemory, Text};
 
-// The version of a file.
+/// The version of a file.
 #[derive(Clone, Copy, Debug, PartialEq, Eq)]
-pub(crate) enum Version {
+pub enum Version {
+    /// Events name their elements by `id` alone.
     First,
+    /// Events name them by `id` or by `path`.
     Second,
 }
 
@@ -102,8 +104,8 @@ fn has_keys(version: Version, value: &Value, event: &Event) -> bool
     }
 }
 
-// The event that a value is.
-pub(crate) fn event_of(
+/// The event that a value is; `None` exactly where it has not the form of one.
+pub fn event_of(
     alloc: Global,
     version: Version,
     value: &Value,
@@ -136,7 +138,8 @@ impl Shape<'_> {
     }
 }
 
-fn text_of(alloc: Global, text: Option<&str>) -> Result<Option<Text>, NoMemory>
+/// A text of its own, where there is one.
+pub fn text_of(alloc: Global, text: Option<&str>) -> Result<Option<Text>, NoMemory>
     ensures { IfOk result (λ t. t ≡ option_map (λ s. s.now) text.entry) }
 {
     match text {

@@ -10,4 +10,7 @@ mod target;
 
 pub use event::{Event, PATH_LIMIT, Path, Target};
 pub use file::read_events;
+pub use form::{Version, event_of, text_of};
+pub use members::filled_text;
 pub use refusal::EventsError;
+pub use target::place_of;

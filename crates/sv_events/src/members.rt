@@ -5,8 +5,8 @@ ghost use Rattle.sv_events.specs.Members as spec;
 
 use serde_json::Value;
 
-// A text that isn't empty.
-pub(crate) fn filled_text(value: &Value) -> Option<&str>
+/// The text that a value is, where it isn't empty.
+pub fn filled_text(value: &Value) -> Option<&str>
     ensures { option_map (λ t. t.now) result ≡ spec.filled_text (view value.now) }
 {
     let text = value.as_str()?;

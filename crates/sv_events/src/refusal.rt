@@ -6,19 +6,19 @@ use std::alloc::{AllocError, AllocFailed};
 use sv_base::NoMemory;
 use thiserror::Error;
 
-/// What is answered in place of the events of a file. Where a file gives cause for two, the one that stands first here comes.
+/// What is answered in place of the events or steps of a file. Where a file gives cause for two, the one that stands first here comes.
 #[derive(Clone, Copy, Debug, PartialEq, Eq, Error)]
 pub enum EventsError {
     /// The bytes are no JSON.
     #[error("NotJson")]
     NotJson,
-    /// The JSON is no object with the version 1 or 2 and a list of events, and nothing else.
+    /// The JSON is no object with a version that is read here and a list of events or steps, and nothing else.
     #[error("BadForm")]
     BadForm,
-    /// There are more than `EVENT_LIMIT` events.
+    /// There are more than `EVENT_LIMIT` of them.
     #[error("TooMany")]
     TooMany,
-    /// The event with this number, from 0, is the first that has not the form of one.
+    /// The one with this number, from 0, is the first that has not the form of one.
     #[error("BadShape {0}")]
     BadShape(u32),
     #[error("out of memory")]

@@ -9,8 +9,8 @@ use serde_json::Value;
 use std::alloc::Global;
 use sv_base::{NoMemory, Text};
 
-// The place that a value is.
-fn place_of(value: &Value) -> Option<u32>
+/// The place that a value is: a whole number below 2 ^ 32.
+pub fn place_of(value: &Value) -> Option<u32>
     ensures { result ≡ spec.place_of (view value.now) }
 {
     let number = value.as_u64()?;
