@@ -1,14 +1,16 @@
--- The pieces of a selector's text, and the borders between them.
+-- The pieces of a text, and the borders between them.
 use Rattle.std.specs.Prelude.{ℕ, ◌==◌, ◌||◌, Bool, List, [], ◌∷◌, drop, Option, None, Some, if◌then◌else◌}
+use Rattle.std.specs.Char.{is_ascii_whitespace}
 use Rattle.std.specs.List.{position_or_len}
 use Rattle.sv_select.specs.declared.borders.Border.{Border}
-use Rattle.sv_select.specs.declared.borders.Border.TheVariants.{Child, Space, Part}
+use Rattle.sv_select.specs.declared.borders.Border.TheVariants.{Child, Space, Part, White}
 
--- `>`, a space, and `#` or `.`
+-- `>`, a space, `#` or `.`, and white space (HTML, 'ASCII whitespace')
 abbrev pub is_border : Border → ℕ → Bool
 is_border Child b = b == 62
 is_border Space b = b == 32
 is_border Part b = b == 35 || b == 46
+is_border White b = is_ascii_whitespace b
 
 -- a byte before the first of some pieces
 abbrev pub ahead : ℕ → List (List ℕ) → List (List ℕ)

@@ -3,3 +3,11 @@ pub mod Words
 pub mod Compound
 pub mod Grammar
 pub mod Reads
+pub mod Texts
+pub mod Shown
+pub mod Fits
+pub mod Matching
+pub mod Reach
+pub mod Search
+pub mod Seen
+pub mod Verdict

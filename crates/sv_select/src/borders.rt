@@ -1,4 +1,4 @@
-// Where the pieces of a selector's text end.
+// Where the pieces of a selector's text end, and the words of a class.
 ghost use Rattle.std.specs.Prelude.{◌≡◌, ◌≤◌, ◌<◌, ◌∷◌, length, not, option_map, IfSome};
 ghost use Rattle.std.specs.List.{prefix_len, before_first};
 ghost use Rattle.sv_select.specs.Borders as spec;
@@ -12,6 +12,8 @@ pub(crate) enum Border {
     Space,
     // `#` or `.`, before a part of a compound.
     Part,
+    // White space of ASCII, between words of a class.
+    White,
 }
 
 fn is_border(border: Border, byte: u8) -> bool
@@ -21,6 +23,7 @@ fn is_border(border: Border, byte: u8) -> bool
         Border::Child => byte == b'>',
         Border::Space => byte == b' ',
         Border::Part => byte == b'#' || byte == b'.',
+        Border::White => byte.is_ascii_whitespace(),
     }
 }
 
