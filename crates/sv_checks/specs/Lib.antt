@@ -1,0 +1,4 @@
+pub mod Deeds
+pub mod Tells
+pub mod Lines
+pub mod Report
