@@ -2,7 +2,6 @@
 use Rattle.std.proofs.Common.{◌≡◌, ℕ, Bool, true, false, List, [], ◌∷◌, ◌++◌, map, refl, ap, sym, ◌∙◌, subst, append_assoc}
 use Rattle.std.specs.Prelude.{Result, Ok, Err, OnOk}
 use Rattle.sv_document.specs.Element.{Element}
-use Rattle.sv_document.specs.Printed.{joined}
 use Rattle.sv_document.specs.Target.{Path}
 use Rattle.sv_document.specs.declared.tree.Node.{Node, Node-F, roll-Node, map-Node, fold-roll-Node, fold_out-Node, ind-Node}
 use Rattle.sv_document.specs.declared.tree.Node.TheVariants as node
@@ -17,7 +16,6 @@ use Rattle.sv_select.specs.declared.selector.Link.{Link}
 use Rattle.sv_select.proofs.Reaching.{reach, on_page-reach, entered-reach, ends-through}
 
 module _ (links : List Link) where
-
   abbrev place : Node → Place
   place = matching.place (through links is_page)
 
@@ -66,7 +64,7 @@ module _ (links : List Link) where
 
   element-found : (e : Element) (known : List Known) (above : Path)
       → own (ends false links e (reached above)) e (search.texts (map (spot links) (bare known))) ++ search.each (entered false links e (reached above)) (map (spot links) (bare known))
-          ≡ own (through links is_page (e ∷ above)) e (matching.texts (map place (bare known))) ++ matching.each (e ∷ above) (map place (bare known))
+      ≡ own (through links is_page (e ∷ above)) e (matching.texts (map place (bare known))) ++ matching.each (e ∷ above) (map place (bare known))
   element-found e known above =
       ap (λ m. own m e (search.texts (map (spot links) (bare known))) ++ search.each (entered false links e (reached above)) (map (spot links) (bare known))) (ends-through is_page links e above)
       ∙ ap (λ t. own (through links is_page (e ∷ above)) e t ++ search.each (entered false links e (reached above)) (map (spot links) (bare known))) (all-spotted known ∙ sym (all-placed known))
@@ -115,11 +113,11 @@ pub found_element : (links : List Link) (outer reached slice : List Reach) (n : 
 found_element links outer reached slice n e nodes kids m old mid new here same known seen is first more =
     more ∙ ap (λ x. x ++ search.found_in links slice kids) first ∙ append_assoc old (own m e (text_in kids)) (search.found_in links slice kids)
     ∙ ap (λ x. old ++ x)
-        (ap (λ ks. own m e (text_in ks) ++ search.found_in links slice ks) same
-        ∙ ap (λ b. own b e (text_in nodes) ++ search.found_in links slice nodes) is
-        ∙ ap (λ r. own (ends false links e outer) e (text_in nodes) ++ search.found_in links r nodes) (seen ∙ known)
-        ∙ sym (from_element links outer e nodes)
-        ∙ ap (search.found_from links outer) (sym here))
+    (ap (λ ks. own m e (text_in ks) ++ search.found_in links slice ks) same
+    ∙ ap (λ b. own b e (text_in nodes) ++ search.found_in links slice nodes) is
+    ∙ ap (λ r. own (ends false links e outer) e (text_in nodes) ++ search.found_in links r nodes) (seen ∙ known)
+    ∙ sym (from_element links outer e nodes)
+    ∙ ap (search.found_from links outer) (sym here))
 
 -- ---- from the page on
 

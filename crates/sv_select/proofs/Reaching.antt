@@ -1,10 +1,10 @@
 -- What is known of a selector's links on a way is whether the way and those round it pass them.
-use Rattle.std.proofs.Common.{◌≡◌, ◌&&◌, ◌||◌, Bool, false, List, [], ◌∷◌, refl, ap, sym, ◌∙◌}
+use Rattle.std.proofs.Common.{◌≡◌, ◌&&◌, Bool, List, [], ◌∷◌, refl, ap, ◌∙◌}
 use Rattle.sv_document.specs.Element.{Element}
 use Rattle.sv_document.specs.Target.{Path}
 use Rattle.sv_select.specs.Fits.{fits}
 use Rattle.sv_select.specs.Matching.{some_round, stands, linked, through}
-use Rattle.sv_select.specs.Reach.{leads, inside, on_page, meets, entered, ends}
+use Rattle.sv_select.specs.Reach.{leads, on_page, meets, entered, ends}
 use Rattle.sv_select.specs.declared.reach.Reach.{Reach}
 use Rattle.sv_select.specs.declared.selector.Combinator.{Combinator}
 use Rattle.sv_select.specs.declared.selector.Combinator.TheVariants.{Child, Descendant}

@@ -13,5 +13,5 @@ pub returns-then-is_word : goal.returns-then-is_word
 returns-then-is_word c =
     let word = c.args.word.now in
     sym (c.loop-left.invariant
-        ∙ ap (list_any (is_word word)) (whole border.White c.loop-left.left c.in-Some.z c.front.result.now c.in-Some.is c.front.ensures)
-        ∙ first_found (is_word word) c.front.result.now (behind_first border.White (rest border.White c.in-Some.z.now)) (sym c.is_word.ensures ∙ c.if-is_word.true))
+    ∙ ap (list_any (is_word word)) (whole border.White c.loop-left.left c.in-Some.z c.front.result.now c.in-Some.is c.front.ensures)
+    ∙ first_found (is_word word) c.front.result.now (behind_first border.White (rest border.White c.in-Some.z.now)) (sym c.is_word.ensures ∙ c.if-is_word.true))
