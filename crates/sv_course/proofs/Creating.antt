@@ -10,7 +10,7 @@ use Rattle.sv_family.proofs.Births.{readied_keeps as readied_rests, Births, made
 use Rattle.sv_family.proofs.Course.{Fact, child_place, root_place, with_born}
 use Rattle.sv_family.proofs.Destroying.{KeepsSorted, taken_keeps}
 use Rattle.sv_family.proofs.Pictures.{Pictured, pictured, tags-same, markup-same, kins-added, kin_at, IsOpened, lent_either, lent-none}
-use Rattle.sv_family.proofs.Scripts.{About, At, are_setups, are_stay, scripted_brings, set_leaves, world_brings, kins-setup, kins-tags}
+use Rattle.sv_family.proofs.Scripts.{About, At, are_sets, are_stay, scripted_brings, set_leaves, world_brings, kins-setup, kins-tags}
 use Rattle.sv_family.specs.Family.{markup_in}
 use Rattle.sv_family.specs.Kin.{Kins, kin_of, kins, depth_at}
 use Rattle.sv_family.specs.Pending.{Pending, AreBefore}
@@ -25,7 +25,6 @@ use Rattle.sv_flush.specs.Showing.{tags_of, recorded, followed, patched_on, patc
 use Rattle.sv_flush.specs.declared.page.Page.{Page}
 use Rattle.sv_frame.proofs.Outcomes.{Modules}
 use Rattle.sv_frame.proofs.Running.{top_leaves}
-use Rattle.sv_frame.proofs.Stepping.{sets_by}
 use Rattle.sv_instance.specs.declared.instance.Instance.{Instance}
 use Rattle.sv_meaning.specs.Components.{component_at, component_of, markup_of}
 use Rattle.sv_meaning.specs.Runs.{run_modules, run_top}
@@ -115,7 +114,7 @@ module _ (p : Program) (ms : Modules) (P : Fact) (L : Moments) (course : Course 
   -- its script
   top_keeps : (F : About) (n : ℕ) (props : List Given) → Brings (Both L (Fresh n) F) (Both L (Busy n) F) (scripted (run_top p n (passed props)))
   top_keeps F n props = both_bring
-      (scripted_brings F (λ old. top_leaves (are_stay p old) n (sets_by (are_setups old) n) (passed props)))
+      (scripted_brings F (λ old. top_leaves (are_stay p old) n (are_sets old n) (passed props)))
       (leads_on tells.lasts (Fresh n) (Busy n) [] (run_top p n (passed props)) (λ shown w h. tells.lasts.opens n [] shown (passed props) w h))
 
   -- ---- a child that was made just now
@@ -179,7 +178,7 @@ module _ (p : Program) (ms : Modules) (P : Fact) (L : Moments) (course : Course 
     born_child : Births p (site_of q k view tag) (Both L Idle Creating) (IsBorn Rest q place view)
     born_child c comp m fits h = (
       child_held p q k view tag Creating (Born p P Rest q place view) c (child_born c comp) m fits h.0,
-      tells.lasts.makes [] m.showing.shown m.world.modules m.world.states (place_below m.world.states tag.file (Some q) (Some (record { tag = k; owner = view.own.inst }))) (cell_count c) c.constants h.1,
+      tells.lasts.makes [] m.showing.shown m.world.modules m.world.states (place_below m.world.states tag.file (Some q) (Some (record { tag = k; owner = view.own.inst }))) c comp h.1,
     )
 
     created_keeps : (run : ℕ → Effect → Task) → ((n : ℕ) → Runs Rest n (run n)) → Brings (Both L Idle Creating) (On Idle Rest) (created p (λ n. each (run n)) q place k props view tag)
@@ -277,7 +276,7 @@ module _ (p : Program) (ms : Modules) (P : Fact) (L : Moments) (course : Course 
   born_root c comp m fits h = (
     subst (λ ks. P [] None [] ks m.showing m.counters.next) (sym (kins-added m.world.states root_place (cell_count c) c.constants))
         (course.makes.roots (kins m.world.states) m.showing m.counters.next c comp h.0),
-    tells.lasts.makes [] m.showing.shown m.world.modules m.world.states root_place (cell_count c) c.constants h.1,
+    tells.lasts.makes [] m.showing.shown m.world.modules m.world.states root_place c comp h.1,
   )
 
   pub rooted_keeps : Brings (On Idle []) (On Idle []) (rooted p)

@@ -257,7 +257,17 @@ module _ (p : Program) (ms : Modules) (shown : List (ℕ × Shown)) (n : ℕ) wh
 
   -- gives it constants, and no other
   pub watches_set : Sets n Before
-  watches_set = record { constant = λ w file c v h. by w file c v h (nat_eq n 0) refl } where
+  watches_set = record {
+    constant = λ w file c v h. by w file c v h (nat_eq n 0) refl;
+    declared = λ now s cell v h. ((cells_steps.declared s (record { inst = n; cell = cell }) v h.0.0, h.0.1), given_steps.declared s (record { inst = n; cell = cell }) v h.1);
+    subscribed = λ now s cell source v h. ((cells_steps.subscribed s (record { inst = n; cell = cell }) source v h.0.0, h.0.1), given_steps.subscribed s (record { inst = n; cell = cell }) source v h.1);
+  } where
+    cells_steps : Steps (EachIs (IsWatched p ms (Only n) shown))
+    cells_steps = each_steps (IsWatched p ms (Only n) shown) (watched_lasts p ms (Only n) shown)
+
+    given_steps : Steps (λ s. AreGiven (Only n) (numbers s))
+    given_steps = pictures_keep plain_number (AreGiven (Only n))
+
     by : (w : World) (file c : ℕ) (v : Val) → Before w.modules w.states → (b : Bool) → nat_eq n 0 ≡ b
         → let u : World = if b then record w { modules = with_module_constant w.modules file c v } else set_up (λ s. record s { constants = slice_set s.constants c (Some v) }) w n in Before u.modules u.states
     by w file c v h true e = absurd (h.1.1 n refl (eqb-true n 0 e))

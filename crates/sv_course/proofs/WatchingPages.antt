@@ -19,17 +19,17 @@ use Rattle.sv_flush.proofs.Knowing.{count_is}
 use Rattle.sv_flush.proofs.Lasting.{Idle, Busy, Snapped}
 use Rattle.sv_flush.proofs.Playing.{rooted_brings, flushed_brings}
 use Rattle.sv_flush.proofs.Recording.{records-laid}
-use Rattle.sv_flush.proofs.Tracking.{Tracks, tracks_stay, picture_at}
+use Rattle.sv_flush.proofs.Tracking.{Tracks, goes_sets, tracks_go, tracks_stay, picture_at}
 use Rattle.sv_flush.specs.Creation.{mounted}
 use Rattle.sv_flush.specs.Flush.{flushed}
 use Rattle.sv_flush.specs.Outcome.{Outcome, Done, Halted, ended, scripted}
 use Rattle.sv_flush.specs.Page.{begun, blank}
 use Rattle.sv_flush.specs.Records.{nobody}
 use Rattle.sv_flush.specs.declared.page.Page.{Page}
-use Rattle.sv_frame.proofs.Altering.{seen_stays}
-use Rattle.sv_frame.proofs.Outcomes.{Modules, at_ends, Leaves, Left, both_stay, ends_stay}
+use Rattle.sv_frame.proofs.Altering.{seen_setups, seen_stays}
+use Rattle.sv_frame.proofs.Outcomes.{Modules, at_ends, Leaves, Left, both_stay, both_sets, ends_stay}
 use Rattle.sv_frame.proofs.Running.{modules_leave}
-use Rattle.sv_frame.proofs.Stepping.{steps_stay}
+use Rattle.sv_frame.proofs.Stepping.{sets_by, steps_stay}
 use Rattle.sv_frame.specs.Snapshots.{snapshot_of, snapshots}
 use Rattle.sv_instance.specs.Cells.{count_of}
 use Rattle.sv_instance.specs.declared.instance.Instance.{Instance}
@@ -116,7 +116,8 @@ abbrev pub IsUnmade : List (ℕ × Shown) → States → Type 0
 IsUnmade shown s = Tracks nobody shown s × (snapshots s ≡ None ∷ [])
 
 unmade_leave : (p : Program) (shown : List (ℕ × Shown)) → Leaves (at_ends (IsUnmade shown)) (run_modules p)
-unmade_leave p shown = modules_leave (both_stay (tracks_stay p shown) (ends_stay (steps_stay (seen_stays (None ∷ [])) p))) (λ ms ms' s h. h)
+unmade_leave p shown = modules_leave (both_stay (tracks_stay p shown) (ends_stay (steps_stay (seen_stays (None ∷ [])) p)))
+    (both_sets (goes_sets (tracks_go shown) 0) (sets_by (seen_setups (None ∷ [])) (seen_stays (None ∷ [])) 0)) (λ ms ms' s h. h)
 
 none_there : {A : Type 0} (n : ℕ) → at {T = A} (None ∷ []) n ≡ None
 none_there zero = refl

@@ -16,6 +16,7 @@ use Rattle.sv_flush.proofs.Lasting.{Phase, Loading, Idle, Fresh, Busy, Snapped, 
 use Rattle.sv_flush.proofs.Past.{later_now}
 use Rattle.sv_flush.proofs.Recording.{Only}
 use Rattle.sv_flush.proofs.Tracking.{Tracks, Shot, tracks_last, tracks_stay, tracks-viewed, picture_at}
+use Rattle.sv_flush.specs.Creation.{cell_count}
 use Rattle.sv_flush.specs.Lent.{ArePast}
 use Rattle.sv_flush.specs.Records.{IsRecorded, Records, nobody}
 use Rattle.sv_frame.proofs.Altering.{pictures-altered}
@@ -279,7 +280,7 @@ module _ (p : Program) (ms : Modules) where
         (λ m due shown now s n c view takes d h. viewed_on shown now s n c view takes h)
         (λ m due shown now s n c view takes d h. viewed_on shown now s n c view takes h);
     spends = λ more due shown now s h. h;
-    makes = λ due shown now s place cells constants h. ((tracks_last p).makes due shown now s place cells constants h.0, watches-born shown now s place cells constants h.0 h.1);
+    makes = λ due shown now s place c is h. ((tracks_last p).makes due shown now s place c is h.0, watches-born shown now s place (cell_count c) c.constants h.0 h.1);
     drops = λ due shown now s n h. ((tracks_last p).drops due shown now s n h.0, watches-gone shown now s n h.1);
     begins = λ n due shown now s h. ((tracks_last p).begins n due shown now s h.0, h.1);
     snaps = λ n due shown now s h. ((tracks_last p).snaps n due shown now s h.0, (watches-snapped shown now s n h.1, passed-snapped shown s n h.0));

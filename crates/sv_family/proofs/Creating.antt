@@ -8,7 +8,7 @@ use Rattle.sv_family.proofs.Births.{readied_keeps, Births, made_then, child_held
 use Rattle.sv_family.proofs.Course.{Fact, Course, child_place, root_place, with_born}
 use Rattle.sv_family.proofs.Destroying.{KeepsSorted, taken_keeps}
 use Rattle.sv_family.proofs.Pictures.{Pictured, pictured, tags-same, markup-same, kins-added, kin_at, IsUnseen, unseen-setup, IsOpened, lent_either, lent-none}
-use Rattle.sv_family.proofs.Scripts.{About, At, Are, are_setups, are_stay, scripted_brings, world_brings, same_at, set_leaves, kins-setup, kins-tags}
+use Rattle.sv_family.proofs.Scripts.{About, At, Are, are_sets, are_stay, scripted_brings, world_brings, same_at, set_leaves, kins-setup, kins-tags}
 use Rattle.sv_family.specs.Family.{markup_in}
 use Rattle.sv_family.specs.Kin.{Kins, kin_of, kins, depth_at}
 use Rattle.sv_family.specs.Pending.{Pending, AreBefore}
@@ -21,7 +21,6 @@ use Rattle.sv_flush.specs.Showing.{tags_of, recorded, followed, patched_on, patc
 use Rattle.sv_flush.specs.declared.page.Page.{Page}
 use Rattle.sv_frame.proofs.Outcomes.{at_ends, Left}
 use Rattle.sv_frame.proofs.Running.{modules_leave, top_leaves}
-use Rattle.sv_frame.proofs.Stepping.{sets_by}
 use Rattle.sv_instance.specs.declared.instance.Instance.{Instance}
 use Rattle.sv_meaning.specs.Components.{component_at, component_of, markup_of}
 use Rattle.sv_meaning.specs.Outcome.{Ending, Ends, Fails}
@@ -46,7 +45,7 @@ Opens p = (n : ℕ) (props : List (ℕ × Val)) (w : World) → IsUnseen n w.sta
 
 -- scripts leave the pictures, and the script of an instance opens it
 pub run_opens : (p : Program) → Opens p → (F : About) (n : ℕ) (props : List (ℕ × Val)) → Brings (λ m. At F m × IsUnseen n m.world.states) (λ m. At F m × IsOpened p n m.world.states) (scripted (run_top p n props))
-run_opens p opens F n props = record { held = λ m h. by m h.0 (run_top p n props m.world) ((top_leaves (are_stay p (kins m.world.states)) n (sets_by (are_setups (kins m.world.states)) n) props).held m.world refl) (opens n props m.world h.1) } where
+run_opens p opens F n props = record { held = λ m h. by m h.0 (run_top p n props m.world) ((top_leaves (are_stay p (kins m.world.states)) n (are_sets (kins m.world.states) n) props).held m.world refl) (opens n props m.world h.1) } where
   by : (m : Page) → At F m → (e : Ending (Unit {0})) → Left (at_ends (Are (kins m.world.states))) e → Left (at_ends (IsOpened p n)) e → Afterwards (λ m. At F m × IsOpened p n m.world.states) (ended m e)
   by m h (Ends a w) same opened = (same_at F m w same h, opened)
   by m h (Fails kind s w) same opened = tt
@@ -238,7 +237,7 @@ module _ (p : Program) (P : Fact) (course : Course p P) (sorted : KeepsSorted P)
 
   root_started : (n : ℕ) → Brings (At (Calm [])) (At (Calm [])) (started p (effects DEPTH_LIMIT p n) n [] None)
   root_started n =
-      brings_then (brings_then (scripted_brings (Calm []) (λ old. top_leaves (are_stay p old) n (sets_by (are_setups old) n) (passed []))) (λ _. brings_then (world_brings (Calm []) (lent_if p n None) (λ w. refl)) (λ _. nothing_brings))) (λ _.
+      brings_then (brings_then (scripted_brings (Calm []) (λ old. top_leaves (are_stay p old) n (are_sets old n) (passed []))) (λ _. brings_then (world_brings (Calm []) (lent_if p n None) (λ w. refl)) (λ _. nothing_brings))) (λ _.
       rest_keeps [] n tt (effect_by p (created_in DEPTH_LIMIT p) n) (effects_keep DEPTH_LIMIT [] n))
 
   born_root : Births p root_site (At (Calm [])) (λ n. At (Calm []))
@@ -248,4 +247,4 @@ module _ (p : Program) (P : Fact) (course : Course p P) (sorted : KeepsSorted P)
   pub mounted_keeps : Keeps [] (mounted p)
   unfolding mounted
   mounted_keeps =
-      brings_then (scripted_brings (Calm []) (λ old. modules_leave (are_stay p old) (λ ms ms' s h. h))) (λ _. made_then p root_site (At (Calm [])) (At (Calm [])) (λ n. At (Calm [])) (λ m left h. h) (λ none m h. h) born_root root_started)
+      brings_then (scripted_brings (Calm []) (λ old. modules_leave (are_stay p old) (are_sets old 0) (λ ms ms' s h. h))) (λ _. made_then p root_site (At (Calm [])) (At (Calm [])) (λ n. At (Calm [])) (λ m left h. h) (λ none m h. h) born_root root_started)

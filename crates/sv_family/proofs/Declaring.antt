@@ -10,11 +10,11 @@ use Rattle.sv_code.specs.declared.program.Program.{Program}
 use Rattle.sv_family.proofs.Creating.{Opens}
 use Rattle.sv_family.proofs.Opening.{Has, HasIn, has_setups, has_stays, declared-has, lasting_steps, unseen_lasts}
 use Rattle.sv_family.proofs.Pictures.{IsUnseen, IsOpened, component-same}
-use Rattle.sv_family.proofs.Scripts.{Are, are_setups, are_stay, plain_kin}
+use Rattle.sv_family.proofs.Scripts.{Are, are_sets, are_stay, plain_kin}
 use Rattle.sv_family.specs.Family.{component_for as component_in}
 use Rattle.sv_family.specs.Kin.{kins}
 use Rattle.sv_frame.proofs.Altering.{pictures_stay}
-use Rattle.sv_frame.proofs.Outcomes.{at_ends, Left, Stays, both_stay, ends_stay}
+use Rattle.sv_frame.proofs.Outcomes.{at_ends, Left, Stays, Sets, both_stay, both_sets, ends_stay}
 use Rattle.sv_frame.proofs.Running.{top_leaves}
 use Rattle.sv_frame.proofs.Stepping.{Setups, Steps, sets_by, steps_stay}
 use Rattle.sv_instance.specs.Cells as cells
@@ -144,14 +144,14 @@ module _ (p : Program) (n : ℕ) (props : List (ℕ × Val)) (w : World) (unseen
     leaving_stays : Stays p (at_ends Leaving)
     leaving_stays = both_stay (are_stay p (kins w.states)) (ends_stay (steps_stay (view_steps n c.view) p))
 
-    leaving_setups : Setups Leaving
-    leaving_setups s f m h = (are_setups (kins w.states) s f m h.0, view_setups n c.view s f m h.1)
+    leaving_sets : Sets n (λ ms. Leaving)
+    leaving_sets = both_sets (are_sets (kins w.states) n) (sets_by (view_setups n c.view) (view_steps n c.view) n)
 
     run_ready : component_of p ready n ≡ Some c → run_top p n props ready ≡ run_component p c n props ready
     run_ready e = rw e refl
 
     again : Left (at_ends Leaving) (run_component p c n props ready)
-    again = subst (λ e. Left (at_ends Leaving) e) (run_ready (same_component ready.states same_kins)) ((top_leaves leaving_stays n (sets_by leaving_setups n) props).held ready (same_kins, has_view))
+    again = subst (λ e. Left (at_ends Leaving) e) (run_ready (same_component ready.states same_kins)) ((top_leaves leaving_stays n leaving_sets props).held ready (same_kins, has_view))
 
     leaves : Left (at_ends Leaving) (run_component p c n props w)
     leaves = subst (λ x. Left (at_ends Leaving) (then_do (each_in_turn (name_subscribed n) c.stores (functions_set n c.script x)) (λ u. script p n props c.script))) idle again

@@ -13,9 +13,9 @@ use Rattle.sv_flush.specs.Setting.{stays, prop_of, handed, prop_set, set}
 use Rattle.sv_flush.specs.Showing.{tag_shown, tag_kept, tags_kept}
 use Rattle.sv_flush.specs.declared.page.Page.{Page}
 use Rattle.sv_frame.proofs.Altering.{Plain, pictures_setup, pictures_stay, pictures-altered, pictures-bound, pictures-handed}
-use Rattle.sv_frame.proofs.Outcomes.{at_ends, Stays, Leaves, Left, ends_stay, if_left, unless_left}
+use Rattle.sv_frame.proofs.Outcomes.{at_ends, Stays, Sets, Leaves, Left, ends_stay, if_left, unless_left}
 use Rattle.sv_frame.proofs.Running.{in_turn_leaves, settle_leaves}
-use Rattle.sv_frame.proofs.Stepping.{Setups, steps_stay}
+use Rattle.sv_frame.proofs.Stepping.{sets_by, steps_stay}
 use Rattle.sv_instance.specs.declared.instance.Instance.{Instance}
 use Rattle.sv_instance.specs.declared.setup.Setup.{Setup}
 use Rattle.sv_meaning.specs.Outcome.{Ending, Ends, Fails, Deed, then_do}
@@ -48,8 +48,8 @@ Are old s = kins s ≡ old
 pub are_stay : (p : Program) (old : Kins) → Stays p (at_ends (Are old))
 are_stay p old = ends_stay (steps_stay (pictures_stay plain_kin old) p)
 
-pub are_setups : (old : Kins) → Setups (Are old)
-are_setups old = pictures_setup (λ i u. refl) old
+pub are_sets : (old : Kins) (n : ℕ) → Sets n (λ ms. Are old)
+are_sets old n = sets_by (pictures_setup (λ i u. refl) old) (pictures_stay plain_kin old) n
 
 -- a deed leaves them
 abbrev pub Rests : Deed (Unit {0}) → Type 0

@@ -11,7 +11,7 @@ use Rattle.sv_family.proofs.Course.{Course, child_place, root_place, with_born}
 use Rattle.sv_family.proofs.Creating.{run_opens}
 use Rattle.sv_family.proofs.Declaring.{opens}
 use Rattle.sv_family.proofs.Pictures.{Pictured, pictured, tags-same, markup-same, next-same, kins-added, kin_at, IsUnseen, unseen-setup, IsOpened, lent_either}
-use Rattle.sv_family.proofs.Scripts.{About, At, are_setups, are_stay, scripted_brings, world_brings, kins-setup, kins-tags}
+use Rattle.sv_family.proofs.Scripts.{About, At, are_sets, are_stay, scripted_brings, world_brings, kins-setup, kins-tags}
 use Rattle.sv_family.proofs.Whole.{Whole, whole_course}
 use Rattle.sv_family.specs.Family.{IsShown, markup_in}
 use Rattle.sv_family.specs.Kin.{Kins, kin_of, kins, depth_at}
@@ -26,7 +26,6 @@ use Rattle.sv_flush.specs.Setting.{lent, lent_if}
 use Rattle.sv_flush.specs.Showing.{tags_of, recorded, followed, patched_on, patched_now, shown}
 use Rattle.sv_flush.specs.declared.page.Page.{Page}
 use Rattle.sv_frame.proofs.Running.{modules_leave, top_leaves}
-use Rattle.sv_frame.proofs.Stepping.{sets_by}
 use Rattle.sv_instance.specs.declared.instance.Instance.{Instance}
 use Rattle.sv_meaning.specs.Components.{component_at, component_of, markup_of}
 use Rattle.sv_numbered.specs.Numbered.{at}
@@ -217,7 +216,7 @@ module _ (p : Program) (owned : SlotsAreOwned p) where
 
   root_started : (n : ℕ) → Brings (At (Fresh [] n)) (At (Calm [])) (started p (effects DEPTH_LIMIT p n) n [] None)
   root_started n =
-      brings_then (brings_then (scripted_brings (Fresh [] n) (λ old. top_leaves (are_stay p old) n (sets_by (are_setups old) n) (passed []))) (λ _. brings_then (world_brings (Fresh [] n) (lent_if p n None) (λ w. refl)) (λ _. nothing_brings))) (λ _.
+      brings_then (brings_then (scripted_brings (Fresh [] n) (λ old. top_leaves (are_stay p old) n (are_sets old n) (passed []))) (λ _. brings_then (world_brings (Fresh [] n) (lent_if p n None) (λ w. refl)) (λ _. nothing_brings))) (λ _.
       rest_keeps [] n tt (effect_by p (created_in DEPTH_LIMIT p) n) (effects_keep DEPTH_LIMIT [] n))
 
   born_root : Births p root_site (At (Calm [])) (λ n. At (Fresh [] n))
@@ -230,4 +229,4 @@ module _ (p : Program) (owned : SlotsAreOwned p) where
   pub first_mounts : Brings (At (Calm [])) (At (Calm [])) (mounted p)
   unfolding mounted
   first_mounts =
-      brings_then (scripted_brings (Calm []) (λ old. modules_leave (are_stay p old) (λ ms ms' s h. h))) (λ _. made_then p root_site (At (Calm [])) (At (Calm [])) (λ n. At (Fresh [] n)) (λ m left h. h) (λ none m h. h) born_root root_started)
+      brings_then (scripted_brings (Calm []) (λ old. modules_leave (are_stay p old) (are_sets old 0) (λ ms ms' s h. h))) (λ _. made_then p root_site (At (Calm [])) (At (Calm [])) (λ n. At (Fresh [] n)) (λ m left h. h) (λ none m h. h) born_root root_started)

@@ -7,15 +7,14 @@ use Rattle.sv_derived.proofs.Ordering.{ordered-none}
 use Rattle.sv_flush.proofs.Bringing.{Afterwards}
 use Rattle.sv_flush.proofs.Lasting.{Lasting}
 use Rattle.sv_flush.proofs.Playing.{mounted_brings, flushed_brings}
-use Rattle.sv_flush.specs.Creation.{mounted}
+use Rattle.sv_flush.specs.Creation.{cell_count, mounted}
 use Rattle.sv_flush.specs.Flush.{flushed}
 use Rattle.sv_flush.specs.Meets.{Meets}
 use Rattle.sv_flush.specs.Outcome.{Done}
 use Rattle.sv_flush.specs.Page.{blank}
 use Rattle.sv_flush.specs.declared.page.Page.{Page}
 use Rattle.sv_frame.proofs.Running.{modules_leave, top_leaves}
-use Rattle.sv_frame.proofs.Staying.{computed-setups, computed_stay, computed_bound, computed-handed, computed-viewed, computed-removed, computed-lives}
-use Rattle.sv_frame.proofs.Stepping.{sets_by}
+use Rattle.sv_frame.proofs.Staying.{computed_stay, computed_sets, computed_bound, computed-handed, computed-viewed, computed-removed, computed-lives}
 use Rattle.sv_frame.specs.Computed.{AreComputed}
 use Rattle.sv_instance.specs.Instance.{born}
 use Rattle.sv_meaning.specs.declared.limits.TheConstants.{CALL_LIMIT}
@@ -26,13 +25,13 @@ use Rattle.sv_states.specs.Waiting.{snapped}
 computed_last : (p : Program) → Lasting p (λ phase due shown ms. AreComputed p)
 computed_last p = record {
   scripts = λ phase may due shown. computed_stay;
-  loads = λ due shown w h. (modules_leave computed_stay (λ ms ms' s k. k)).held w h;
-  opens = λ n due shown props w h. (top_leaves computed_stay n (sets_by computed-setups n) props).held w h;
+  loads = λ due shown w h. (modules_leave computed_stay (computed_sets 0) (λ ms ms' s k. k)).held w h;
+  opens = λ n due shown props w h. (top_leaves computed_stay n (computed_sets n) props).held w h;
   binds = λ due shown w n b may h. computed_bound CALL_LIMIT w n b may h;
   hands = λ phase may due shown ms s at v h. computed-handed s at v h;
   lends = λ phase may due shown ms s n c view is d h. computed-viewed s n c view h;
   spends = λ more due shown ms s h. h;
-  makes = λ due shown ms s place cells constants h. computed-lives s (added s (born place cells constants)) refl refl h;
+  makes = λ due shown ms s place c is h. computed-lives s (added s (born place (cell_count c) c.constants)) refl refl h;
   drops = λ due shown ms s n h. computed-removed s n h;
   begins = λ n due shown ms s h. h;
   snaps = λ n due shown ms s h. computed-lives s (snapped s n) refl refl h;

@@ -3,6 +3,7 @@ use Rattle.std.proofs.Common.{◌≡◌, ℕ, List, ◌++◌, length, Option, So
 use Rattle.std.specs.BTreeMap.{is_at, insert_entry}
 use Rattle.std.specs.Map.{remove_entry}
 use Rattle.std.specs.Ordering.{nat_cmp}
+use Rattle.sv_flush.specs.Creation.{cell_count}
 use Rattle.sv_flush.specs.Lent.{StandsIn}
 use Rattle.sv_code.specs.declared.program.Component.{Component}
 use Rattle.sv_code.specs.declared.program.Program.{Program}
@@ -11,7 +12,7 @@ use Rattle.sv_instance.specs.Bound.{Bound}
 use Rattle.sv_instance.specs.Instance.{born}
 use Rattle.sv_instance.specs.Standing.{Place}
 use Rattle.sv_instance.specs.declared.instance.Instance.{Instance}
-use Rattle.sv_meaning.specs.Components.{component_for}
+use Rattle.sv_meaning.specs.Components.{component_at, component_for}
 use Rattle.sv_meaning.specs.Runs.{run_modules, run_top, settle}
 use Rattle.sv_shapes.specs.declared.shape.Shape.{Shape}
 use Rattle.sv_shapes.specs.declared.shown.Shown.{Shown}
@@ -79,7 +80,8 @@ pub record Lasting (p : Program) (P : About) : Type 0 where
       → P phase due shown ms (viewed s n c view)
   pub spends : (more due : List Level) (shown : List (ℕ × Shown)) (ms : Modules) (s : States) → P Idle (more ++ due) shown ms s → P Idle due shown ms s
   -- instances that are made, and that go
-  pub makes : (due : List Level) (shown : List (ℕ × Shown)) (ms : Modules) (s : States) (place : Place) (cells constants : ℕ) → P Idle due shown ms s → P (Fresh (length s.lives)) due shown ms (added s (born place cells constants))
+  pub makes : (due : List Level) (shown : List (ℕ × Shown)) (ms : Modules) (s : States) (place : Place) (c : Component) → component_at p place.component ≡ Some c → P Idle due shown ms s
+      → P (Fresh (length s.lives)) due shown ms (added s (born place (cell_count c) c.constants))
   pub drops : (due : List Level) (shown : List (ℕ × Shown)) (ms : Modules) (s : States) (n : ℕ) → P Idle due shown ms s → P Idle due (remove_entry (is_at (nat_cmp n)) shown) ms (removed s n)
   -- updates
   pub begins : (n : ℕ) (due : List Level) (shown : List (ℕ × Shown)) (ms : Modules) (s : States) → P Idle due shown ms s → P (Busy n) due shown ms s

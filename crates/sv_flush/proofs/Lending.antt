@@ -12,6 +12,7 @@ use Rattle.sv_flush.proofs.Lasting.{Loading, Idle, Fresh, Busy, Snapped, IsOf, A
 use Rattle.sv_flush.proofs.Past.{past_shown, same_now, present_past}
 use Rattle.sv_flush.proofs.Standing.{stands-back, stands-parts}
 use Rattle.sv_flush.proofs.Tracking.{GoesBy, goes_stays, goes-loaded, goes-opened, goes-bound, goes-handed, picture_at, seen-snapped}
+use Rattle.sv_flush.specs.Creation.{cell_count}
 use Rattle.sv_flush.specs.Lent.{StandsIn, IsShownOn, IsLent, StandsHeld, IsHeld, ArePast, LevelsAgree, HoldsPast}
 use Rattle.sv_flush.specs.declared.page.Page.{Page}
 use Rattle.sv_frame.proofs.Altering.{pictures-altered, pictures-viewed, plain_view, view_of, snapshots-viewed}
@@ -219,7 +220,7 @@ lends_last p = record {
   hands = while_running _ (λ due shown ms s at v h. goes-handed (lends_go due shown) s at v h) (λ n due shown ms s at v h. goes-handed (lends_go due shown) s at v h) (λ n due shown ms s at v h. goes-handed (lends_go due shown) s at v h);
   lends = while_running _ (λ due shown ms s n c view is d h. lends-viewed due shown s n c view d h) (λ m due shown ms s n c view is d h. lends-viewed due shown s n c view d h) (λ m due shown ms s n c view is d h. lends-viewed due shown s n c view d h);
   spends = λ more due shown ms s h. lends-fewer more due shown s h;
-  makes = λ due shown ms s place cells constants h. lends-added due shown s _ (new-born place cells constants) refl h;
+  makes = λ due shown ms s place c is h. lends-added due shown s _ (new-born place (cell_count c) c.constants) refl h;
   drops = λ due shown ms s n h. lends-gone due shown s n h;
   begins = λ n due shown ms s h. h;
   snaps = λ n due shown ms s h. record { lends = lends-snapped n due shown s h; now = seen-snapped n s };

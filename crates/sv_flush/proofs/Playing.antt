@@ -256,21 +256,22 @@ module _ {p : Program} {P : About} (lasts : Lasting p P) where
     pub work_brings : Brings (On P Idle due) (On P Idle due) work
     work_brings = record { held = λ m h. work_lasts (nat_le 1 m.counters.work) m h }
 
-    born_lasts : (site : Site) (c : Component) (b : Bool) (m : Page) → On P Idle due m → AfterMade due (if b then too_deep site.span m else Done (Some (next m.world)) (record m { world = born_at site c m.world }))
-    born_lasts site c true m h = tt
-    born_lasts site c false m h = lasts.makes due m.showing.shown m.world.modules m.world.states (place_below m.world.states site.file site.parent site.standing) (cell_count c) c.constants h
+    born_lasts : (site : Site) (c : Component) → component_at p site.file ≡ Some c → (b : Bool) (m : Page) → On P Idle due m
+        → AfterMade due (if b then too_deep site.span m else Done (Some (next m.world)) (record m { world = born_at site c m.world }))
+    born_lasts site c is true m h = tt
+    born_lasts site c is false m h = lasts.makes due m.showing.shown m.world.modules m.world.states (place_below m.world.states site.file site.parent site.standing) c is h
 
-    work_made : (site : Site) (c : Component) (b : Bool) (m : Page) → On P Idle due m → AfterMade due (and_then (work_if b m) (λ _. born_here site c))
-    work_made site c true m h = born_lasts site c (is_too_deep site m.world) _ h
-    work_made site c false m h = tt
+    work_made : (site : Site) (c : Component) → component_at p site.file ≡ Some c → (b : Bool) (m : Page) → On P Idle due m → AfterMade due (and_then (work_if b m) (λ _. born_here site c))
+    work_made site c is true m h = born_lasts site c is (is_too_deep site m.world) _ h
+    work_made site c is false m h = tt
 
-    made_of_lasts : (site : Site) (o : Option Component) (m : Page) → On P Idle due m → AfterMade due (made_of site o m)
-    made_of_lasts site None m h = h
-    made_of_lasts site (Some c) m h = work_made site c (nat_le 1 m.counters.work) m h
+    made_of_lasts : (site : Site) (o : Option Component) → component_at p site.file ≡ o → (m : Page) → On P Idle due m → AfterMade due (made_of site o m)
+    made_of_lasts site None is m h = h
+    made_of_lasts site (Some c) is m h = work_made site c is (nat_le 1 m.counters.work) m h
 
     -- what is done with one that is made
     made_then : (site : Site) {task : ℕ → Task} → ((n : ℕ) → Brings (On P (Fresh n) due) (On P Idle due) (task n)) → Brings (On P Idle due) (On P Idle due) (λ m. and_then (made p site m) (child_task task))
-    made_then site {task = task} k = record { held = λ m h. over (made p site m) (made_of_lasts site (component_at p site.file) m h) } where
+    made_then site {task = task} k = record { held = λ m h. over (made p site m) (made_of_lasts site (component_at p site.file) refl m h) } where
       over : (o : Outcome (Option ℕ)) → AfterMade due o → Afterwards (On P Idle due) (and_then o (child_task task))
       over (Done None m) h = h
       over (Done (Some n) m) h = (k n).held m h

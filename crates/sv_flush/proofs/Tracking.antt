@@ -9,10 +9,11 @@ use Rattle.std.proofs.lemmas.Option.{none-some, same_Some}
 use Rattle.sv_code.specs.declared.program.Program.{Program}
 use Rattle.sv_flush.proofs.Lasting.{Loading, Idle, Fresh, Busy, Snapped, About, Lasting, while_running}
 use Rattle.sv_flush.proofs.Recording.{Only, RecordsBut, records-weaker, records-added, records-gone, records-snapped, records-but, records-dead, records-shown}
+use Rattle.sv_flush.specs.Creation.{cell_count}
 use Rattle.sv_flush.specs.Records.{Records, nobody}
 use Rattle.sv_flush.specs.declared.page.Page.{Page}
 use Rattle.sv_frame.proofs.Altering.{pictures, seen_setups, seen_stays, lent_setups, lent_stays, snapshots-viewed, snapshots-bound, snapshots-handed, views-bound, views-handed}
-use Rattle.sv_frame.proofs.Outcomes.{at_ends, Left, Stays, ends_stay}
+use Rattle.sv_frame.proofs.Outcomes.{at_ends, Left, Stays, Sets, ends_stay}
 use Rattle.sv_frame.proofs.Running.{modules_leave, top_leaves, settle_leaves}
 use Rattle.sv_frame.proofs.Stepping.{Setups, Steps, sets_by, steps_stay}
 use Rattle.sv_frame.specs.Snapshots.{snapshot_of, snapshots}
@@ -82,11 +83,14 @@ module _ {P : States → Type 0} (goes : GoesBy P) where
   pub goes_stays : (p : Program) → Stays p (at_ends P)
   goes_stays p = ends_stay (steps_stay goes_steps p)
 
+  pub goes_sets : (owner : ℕ) → Sets owner (λ ms. P)
+  goes_sets owner = sets_by goes_setups goes_steps owner
+
   pub goes-loaded : (p : Program) (w : World) → P w.states → Left (at_ends P) (run_modules p w)
-  goes-loaded p w h = (modules_leave (goes_stays p) (λ ms ms' s k. k)).held w h
+  goes-loaded p w h = (modules_leave (goes_stays p) (goes_sets 0) (λ ms ms' s k. k)).held w h
 
   pub goes-opened : (p : Program) (n : ℕ) (props : List (ℕ × Val)) (w : World) → P w.states → Left (at_ends P) (run_top p n props w)
-  goes-opened p n props w h = (top_leaves (goes_stays p) n (sets_by goes_setups n) props).held w h
+  goes-opened p n props w h = (top_leaves (goes_stays p) n (goes_sets n) props).held w h
 
   -- and what flushes do besides
   pub goes-bound : (p : Program) (w : World) (n : ℕ) (b : Bound) → P w.states → Left (at_ends P) (settle p (record w { states = bound_up w.states n b }))
@@ -110,7 +114,7 @@ module _ {But : ℕ → Type 0} where
   tracks_on : (shown : List (ℕ × Shown)) (s t : States) → Tracks But shown s → IsSound t → snapshots t ≡ snapshots s → Tracks But shown t
   tracks_on shown s t h sound same = record { sound = sound; records = subst (λ saw. Records But saw shown) (sym same) h.records }
 
-  tracks_go : (shown : List (ℕ × Shown)) → GoesBy (Tracks But shown)
+  pub tracks_go : (shown : List (ℕ × Shown)) → GoesBy (Tracks But shown)
   tracks_go shown = record { sound = λ s h. h.sound; on = λ s t h sound same views. tracks_on shown s t h sound same }
 
   -- whatever scripts do
@@ -184,7 +188,7 @@ tracks_last p = record {
   hands = while_running _ (λ due shown ms s at v h. goes-handed (tracks_go shown) s at v h) (λ n due shown ms s at v h. goes-handed (tracks_go shown) s at v h) (λ n due shown ms s at v h. goes-handed (tracks_go shown) s at v h);
   lends = while_running _ (λ due shown ms s n c view is d h. tracks-viewed shown s n c view h) (λ m due shown ms s n c view is d h. tracks-viewed shown s n c view h) (λ m due shown ms s n c view is d h. tracks-viewed shown s n c view h);
   spends = λ more due shown ms s h. h;
-  makes = λ due shown ms s place cells constants h. tracks-added shown s _ (new-born place cells constants) h;
+  makes = λ due shown ms s place c is h. tracks-added shown s _ (new-born place (cell_count c) c.constants) h;
   drops = λ due shown ms s n h. tracks-gone shown s n h;
   begins = λ n due shown ms s h. record { sound = h.sound; records = records-weaker nobody (Only n) (snapshots s) shown (λ j none. absurd none) h.records };
   snaps = λ n due shown ms s h. record { sound = sound-snapped s n h.sound; records = snapped_but n s shown (live s n) refl h.records; now = seen-snapped n s };

@@ -6,7 +6,7 @@ use Rattle.std.proofs.lemmas.Bool.{eqb-true}
 use Rattle.sv_code.specs.declared.program.Program.{Program}
 use Rattle.sv_frame.proofs.Altering.{pictures_keep, plain_constants}
 use Rattle.sv_frame.proofs.Outcomes.{Modules, Fact, anyway, Stays, Sets, Leaves, Left}
-use Rattle.sv_frame.proofs.Stepping.{both_steps_stay}
+use Rattle.sv_frame.proofs.Stepping.{Steps, both_steps_stay}
 use Rattle.sv_frame.specs.Constants.{constants_of, constants, LeavesConstants, LeavesOthers}
 use Rattle.sv_frame.specs.Snapshots.{world_of}
 use Rattle.sv_instance.specs.declared.instance.Instance.{Instance}
@@ -41,7 +41,14 @@ module _ (n m : ℕ) (other : m ≢ n) (x : Option (List (Option Val))) (was : M
   Others ms s = (at (constants s) m ≡ x) × (n ≢ 0 → ms ≡ was)
 
   others_set : Sets n Others
-  others_set = record { constant = λ w file i v h. by w file i v h (nat_eq n 0) refl } where
+  others_set = record {
+    constant = λ w file i v h. by w file i v h (nat_eq n 0) refl;
+    declared = λ ms s cell v h. (are_steps.declared s (record { inst = n; cell = cell }) v h.0, h.1);
+    subscribed = λ ms s cell source v h. (are_steps.subscribed s (record { inst = n; cell = cell }) source v h.0, h.1);
+  } where
+    are_steps : Steps (λ s. at (constants s) m ≡ x)
+    are_steps = pictures_keep plain_constants (λ l. at l m ≡ x)
+
     set : ℕ → Val → Instance → Instance
     set i v j = record j { setup = record j.setup { constants = slice_set j.setup.constants i (Some v) } }
 

@@ -19,7 +19,6 @@ use Rattle.sv_states.specs.Refusal.{assign_refusal, store_refusal}
 use Rattle.sv_states.specs.States.{States, with_instance}
 use Rattle.sv_states.specs.declared.error.AssignError.{AssignError}
 use Rattle.sv_states.specs.declared.error.AssignError.TheVariants.{ReadOnly, NotAStore, NoMemory}
-use Rattle.sv_store.specs.Stores.{Subscriber}
 use Rattle.sv_value.specs.Value.{Val}
 use Rattle.sv_world.specs.declared.world.World.{World}
 
@@ -72,8 +71,6 @@ MaySet o = o ≡ Some ReadOnly → ⊥
 -- it stays true whatever code does, one thing at a time; derived stores settle behind what sets a store. What is left with an instance leaves its constants
 pub record Stays (p : Program) (P : Fact) : Type 0 where
   pub left : (ms : Modules) (s : States) (f : Setup → Setup) (n : ℕ) → ((u : Setup) → (f u).constants ≡ u.constants) → P.ends ms s → P.ends ms (with_instance (λ i. record i { setup = f i.setup }) s n)
-  pub declared : (ms : Modules) (s : States) (at : Subscriber) (v : Val) → P.ends ms s → P.ends ms (states_change.declared s at v)
-  pub subscribed : (ms : Modules) (s : States) (at : Subscriber) (source : Option ℕ) (v : Val) → P.ends ms s → P.ends ms (states_change.subscribed_to s at source v)
   pub with_store : (ms : Modules) (s : States) (v : Val) → P.ends ms s → P.ends ms (states_change.with_store s v)
   pub with_derived : (room : ℕ) (w w' : World) (owner : ℕ) (r : Recipe) (v : Val) → AreBelow r.inputs (length w.states.stores) → derive p room owner r w ≡ Ends v w' → P.ends w.modules w.states
       → P.ends w'.modules (states_change.with_derived w'.states owner r v)
@@ -81,15 +78,16 @@ pub record Stays (p : Program) (P : Fact) : Type 0 where
   pub assigned : (room : ℕ) (w : World) (n c : ℕ) (v : Val) → MaySet (assign_refusal w.states n c v) → P.ends w.modules w.states → Left P (settled (derive p room) (record w { states = states.assigned w.states n c v }))
   pub store_set : (room : ℕ) (w : World) (id : ℕ) (v : Val) → MaySet (store_refusal w.states id) → P.ends w.modules w.states → Left P (settled (derive p room) (record w { states = states.store_set w.states id v }))
 
--- and whatever the top of a file does besides: constants get their values, those of an instance or, where the owner is 0, those of a module file
+-- and whatever the top of a file does besides: constants get their values, those of an instance or, where the owner is 0, those of a module file; variables
+-- are declared, and their `$` names subscribed
 pub record Sets (owner : ℕ) (P : Modules → States → Type 0) : Type 0 where
   pub constant : (w : World) (file n : ℕ) (v : Val) → P w.modules w.states → P (constant_set owner file n v w).modules (constant_set owner file n v w).states
+  pub declared : (ms : Modules) (s : States) (cell : ℕ) (v : Val) → P ms s → P ms (states_change.declared s (record { inst = owner; cell = cell }) v)
+  pub subscribed : (ms : Modules) (s : States) (cell : ℕ) (source : Option ℕ) (v : Val) → P ms s → P ms (states_change.subscribed_to s (record { inst = owner; cell = cell }) source v)
 
 pub both_stay : {p : Program} {P R : Modules → States → Type 0} → Stays p (ending P) → Stays p (ending R) → Stays p (ending (λ ms s. P ms s × R ms s))
 both_stay {P = P} {R = R} h k = record {
   left = λ ms s f n e x. (h.left ms s f n e x.0, k.left ms s f n e x.1);
-  declared = λ ms s at v x. (h.declared ms s at v x.0, k.declared ms s at v x.1);
-  subscribed = λ ms s at source v x. (h.subscribed ms s at source v x.0, k.subscribed ms s at source v x.1);
   with_store = λ ms s v x. (h.with_store ms s v x.0, k.with_store ms s v x.1);
   with_derived = λ room w w' owner r v b e x. (h.with_derived room w w' owner r v b e x.0, k.with_derived room w w' owner r v b e x.1);
   settles = λ room w x. both_left _ (h.settles room w x.0) (k.settles room w x.1);
@@ -100,6 +98,13 @@ both_stay {P = P} {R = R} h k = record {
   both_left (Ends a w) x y = (x, y)
   both_left (Fails kind s w) x y = tt
 
+pub both_sets : {owner : ℕ} {P R : Modules → States → Type 0} → Sets owner P → Sets owner R → Sets owner (λ ms s. P ms s × R ms s)
+both_sets h k = record {
+  constant = λ w file n v x. (h.constant w file n v x.0, k.constant w file n v x.1);
+  declared = λ ms s cell v x. (h.declared ms s cell v x.0, k.declared ms s cell v x.1);
+  subscribed = λ ms s cell source v x. (h.subscribed ms s cell source v x.0, k.subscribed ms s cell source v x.1);
+}
+
 -- what is true either way is true where something ends
 pub ends_left : (P : Fact) {A : Type 0} (e : Ending A) → Left P e → Left (ending P.ends) e
 ends_left P (Ends a w) h = h
@@ -108,8 +113,6 @@ ends_left P (Fails k s w) h = tt
 pub ends_stay : {p : Program} {P : Fact} → Stays p P → Stays p (ending P.ends)
 ends_stay {p = p} {P = P} h = record {
   left = h.left;
-  declared = h.declared;
-  subscribed = h.subscribed;
   with_store = h.with_store;
   with_derived = h.with_derived;
   settles = λ room w x. ends_left P (settled (derive p room) w) (h.settles room w x);

@@ -20,8 +20,8 @@ use Rattle.sv_code.specs.declared.program.ProgramFile.{ProgramFile}
 use Rattle.sv_code.specs.declared.program.Run.{Run}
 use Rattle.sv_code.specs.declared.program.StoreCell.{StoreCell}
 use Rattle.sv_code.specs.declared.tags.Handler.{Handler}
-use Rattle.sv_frame.proofs.Outcomes.{Modules, Fact, Stays, Sets, Keeps, Leaves, Left, then_left, then_keeps, done_keeps, counted_keeps, then_leaves, ends_leaves, fails_leaves, given_leaves, answered_leaves, doing_keeps, left_leaves}
-use Rattle.sv_frame.proofs.Statements.{value_or_keeps, subscribe_leaves, subscribe_if_leaves, in_order_keeps, valued_keeps, run_keeps, runs_keep}
+use Rattle.sv_frame.proofs.Outcomes.{Modules, Fact, Stays, Sets, Keeps, Leaves, Left, if_left, then_left, then_keeps, done_keeps, counted_keeps, then_leaves, ends_leaves, fails_leaves, given_leaves, answered_leaves, doing_keeps, left_leaves}
+use Rattle.sv_frame.proofs.Statements.{value_or_keeps, in_order_keeps, valued_keeps, run_keeps, runs_keep}
 use Rattle.sv_frame.proofs.Values.{Each, expr_keeps}
 use Rattle.sv_frame.proofs.Calls.{DerivesAs, CallerKeeps, value_leaves, make_leaves}
 use Rattle.sv_meaning.specs.Calls.{Caller, first, second}
@@ -35,11 +35,11 @@ use Rattle.sv_meaning.specs.Parts.{part_value}
 use Rattle.sv_meaning.specs.Runs.{world_ground, calls, each_in_turn, function_set, functions_set, given_for, declarations, prop_value, top_declared, top_or, top, script, modules_opened, run_module, run_modules, cell_opened, cells_opened, view_opened, name_opened, name_subscribed, opened, run_component, run_top, is_due, inner, run_at, run_due, run_reactive, called, settle}
 use Rattle.sv_meaning.specs.Sight.{Ground, ground_in, is_there}
 use Rattle.sv_meaning.specs.Sources.{source, source_of}
-use Rattle.sv_meaning.specs.Statements.{initialized, variable, subscribe, declare}
+use Rattle.sv_meaning.specs.Statements.{initialized, variable, may_show, subscribe, subscribe_if, declare}
 use Rattle.sv_meaning.specs.declared.limits.TheConstants.{CALL_LIMIT}
 use Rattle.sv_ops.specs.Answer.{object_made}
 use Rattle.sv_ops.specs.declared.faults.Fault.{Fault}
-use Rattle.sv_ops.specs.declared.faults.FaultKind.TheVariants.{NotText, NotAFunction, CallDepth, UseBeforeInit}
+use Rattle.sv_ops.specs.declared.faults.FaultKind.TheVariants.{NotText, NotAFunction, NotAStore, CallDepth, UseBeforeInit}
 use Rattle.sv_states.specs.States.{States, live, value_in}
 use Rattle.sv_states.specs.declared.states.TheConstants.{DEPTH_LIMIT}
 use Rattle.sv_value.specs.Value.{Val, Vals, undefined, null, boolean, number, text, list, object, function, store, items, none}
@@ -202,7 +202,7 @@ module _ {p : Program} {P : Fact} (stays : Stays p P) where
   functions_stay owner sets [] w h = h
   functions_stay owner sets (s ∷ stmts) w h = functions_stay owner sets stmts (function_set owner s.span (out-CodeStmtKind s.kind) w) (function_stays owner sets s.span (out-CodeStmtKind s.kind) w h)
 
-  prop_value_keeps : (v : Val) {first : Meaning Val} → Keeps P first → Keeps P (prop_value v first)
+  pub prop_value_keeps : (v : Val) {first : Meaning Val} → Keeps P first → Keeps P (prop_value v first)
   prop_value_keeps undefined k = k
   prop_value_keeps null k = done_keeps null
   prop_value_keeps (boolean b) k = done_keeps (boolean b)
@@ -213,9 +213,17 @@ module _ {p : Program} {P : Fact} (stays : Stays p P) where
   prop_value_keeps (function c o held) k = done_keeps (function c o held)
   prop_value_keeps (store id) k = done_keeps (store id)
 
+  subscribe_leaves : (owner : ℕ) → Sets owner P.ends → (cell : ℕ) (source : Option ℕ) (s : Span) (v : Val) → Leaves P (subscribe owner cell source s v)
+  subscribe_leaves owner sets cell source s v =
+      record { held = λ w h. if_left P (may_show source v) _ (Fails NotAStore s w) (sets.subscribed w.modules w.states cell source v h) (P.weaker w.modules w.states h) }
+
+  subscribe_if_leaves : (o : Option ℕ) (owner : ℕ) → Sets owner P.ends → (source : Option ℕ) (s : Span) (v : Val) → Leaves P (subscribe_if o owner source s v)
+  subscribe_if_leaves None owner sets source s v = ends_leaves tt
+  subscribe_if_leaves (Some cell) owner sets source s v = subscribe_leaves owner sets cell source s v
+
   -- a name at the top gets its first value
   initialized_stays : (owner : ℕ) → Sets owner P.ends → (x : Known) (s : Span) (v : Val) (w : World) → P.ends w.modules w.states → P.ends (initialized owner x s v w).modules (initialized owner x s v w).states
-  initialized_stays owner sets (known.Cell n) s v w h = stays.declared w.modules w.states (record { inst = owner; cell = n }) v h
+  initialized_stays owner sets (known.Cell n) s v w h = sets.declared w.modules w.states n v h
   initialized_stays owner sets (known.Constant n) s v w h = sets.constant w s.file n v h
   initialized_stays owner sets (known.Local x) s v w h = h
   initialized_stays owner sets (known.Export file n) s v w h = h
@@ -227,7 +235,7 @@ module _ {p : Program} {P : Fact} (stays : Stays p P) where
   module _ (owner : ℕ) (sets : Sets owner P.ends) (props : List (ℕ × Val)) where
     declare_leaves : (d : CodeDecl) (v : Val) → Leaves P (declare owner d v)
     declare_leaves d v =
-        record { held = λ w h. (subscribe_if_leaves stays d.store owner (variable d.target) d.name.span v).held (initialized owner d.target d.name.span v w) (initialized_stays owner sets d.target d.name.span v w h) }
+        record { held = λ w h. (subscribe_if_leaves d.store owner sets (variable d.target) d.name.span v).held (initialized owner d.target d.name.span v w) (initialized_stays owner sets d.target d.name.span v w h) }
 
     declared_keeps : (d : CodeDecl) → Keeps P (top_declared p owner props d)
     declared_keeps d =
@@ -252,13 +260,10 @@ module _ {p : Program} {P : Fact} (stays : Stays p P) where
   -- ---- module files
 
   -- it is so whatever constants module files have
-  module _ (free : (ms ms' : Modules) (s : States) → P.ends ms s → P.ends ms' s) where
-    module_sets : Sets 0 P.ends
-    module_sets = record { constant = λ w file n v h. free w.modules _ w.states h }
-
+  module _ (sets : Sets 0 P.ends) (free : (ms ms' : Modules) (s : States) → P.ends ms s → P.ends ms' s) where
     file_left : (c : FileCode) (f : ProgramFile) (w : World) → P.ends w.modules w.states → Left P (run_module p (Some (record f { code = c })) w)
     file_left (file_code.Component c) f w h = h
-    file_left (file_code.Module m) f w h = (script_leaves 0 module_sets [] m.script).held (functions_set 0 m.script w) (functions_stay 0 module_sets m.script w h)
+    file_left (file_code.Module m) f w h = (script_leaves 0 sets [] m.script).held (functions_set 0 m.script w) (functions_stay 0 sets m.script w h)
 
     module_leaves : (o : Option ProgramFile) → Leaves P (run_module p o)
     module_leaves None = ends_leaves tt
@@ -271,39 +276,39 @@ module _ {p : Program} {P : Fact} (stays : Stays p P) where
 
   -- ---- components
 
-  cells_stay : (owner : ℕ) (cells : List ℕ) (w : World) → P.ends w.modules w.states → P.ends (cells_opened owner cells w).modules (cells_opened owner cells w).states
-  cells_stay owner [] w h = h
-  cells_stay owner (n ∷ cells) w h = cells_stay owner cells (cell_opened owner w n) (stays.declared w.modules w.states (record { inst = owner; cell = n }) undefined h)
+  cells_stay : (owner : ℕ) → Sets owner P.ends → (cells : List ℕ) (w : World) → P.ends w.modules w.states → P.ends (cells_opened owner cells w).modules (cells_opened owner cells w).states
+  cells_stay owner sets [] w h = h
+  cells_stay owner sets (n ∷ cells) w h = cells_stay owner sets cells (cell_opened owner w n) (sets.declared w.modules w.states n undefined h)
 
-  view_stays : (owner : ℕ) (o : Option ℕ) (w : World) → P.ends w.modules w.states → P.ends (view_opened owner o w).modules (view_opened owner o w).states
-  view_stays owner None w h = h
-  view_stays owner (Some n) w h = stays.declared w.modules w.states (record { inst = owner; cell = n }) undefined h
+  view_stays : (owner : ℕ) → Sets owner P.ends → (o : Option ℕ) (w : World) → P.ends w.modules w.states → P.ends (view_opened owner o w).modules (view_opened owner o w).states
+  view_stays owner sets None w h = h
+  view_stays owner sets (Some n) w h = sets.declared w.modules w.states n undefined h
 
   opened_stays : (c : Component) (owner : ℕ) → Sets owner P.ends → (w : World) → P.ends w.modules w.states → P.ends (opened c owner w).modules (opened c owner w).states
-  opened_stays c owner sets w h = functions_stay owner sets c.script _ (view_stays owner c.view _ (cells_stay owner c.reactive w h))
+  opened_stays c owner sets w h = functions_stay owner sets c.script _ (view_stays owner sets c.view _ (cells_stay owner sets c.reactive w h))
 
-  name_left : (o : Option Val) (owner n : ℕ) (x : StoreCell) (w : World) → P.ends w.modules w.states → Left P (name_opened o owner n x w)
-  name_left None owner n x w h = h
-  name_left (Some v) owner n x w h = (subscribe_leaves stays owner x.cell (Some n) x.span v).held w h
+  name_left : (o : Option Val) (owner : ℕ) → Sets owner P.ends → (n : ℕ) (x : StoreCell) (w : World) → P.ends w.modules w.states → Left P (name_opened o owner n x w)
+  name_left None owner sets n x w h = h
+  name_left (Some v) owner sets n x w h = (subscribe_leaves owner sets x.cell (Some n) x.span v).held w h
 
-  holder_left : (owner : ℕ) (k : Known) (x : StoreCell) (w : World) → P.ends w.modules w.states → Left P (name_subscribed owner (record x { holder = k }) w)
-  holder_left owner (known.Export file n) x w h =
+  holder_left : (owner : ℕ) → Sets owner P.ends → (k : Known) (x : StoreCell) (w : World) → P.ends w.modules w.states → Left P (name_subscribed owner (record x { holder = k }) w)
+  holder_left owner sets (known.Export file n) x w h =
       then_left P (given UseBeforeInit x.span (module_constant_at w.modules file n) w) (subscribe owner x.cell None x.span) ((given_leaves {P = P} UseBeforeInit x.span (module_constant_at w.modules file n)).held w h)
-      (λ v w' h'. (subscribe_leaves stays owner x.cell None x.span v).held w' h')
-  holder_left owner (known.Local n) x w h = P.weaker w.modules w.states h
-  holder_left owner (known.Cell n) x w h = name_left (value_in (live w.states owner) n) owner n (record x { holder = known.Cell n }) w h
-  holder_left owner (known.Constant n) x w h = h
-  holder_left owner (known.Life l) x w h = P.weaker w.modules w.states h
-  holder_left owner known.Writable x w h = P.weaker w.modules w.states h
-  holder_left owner known.Derived x w h = P.weaker w.modules w.states h
-  holder_left owner (known.BuiltIn b) x w h = P.weaker w.modules w.states h
+      (λ v w' h'. (subscribe_leaves owner sets x.cell None x.span v).held w' h')
+  holder_left owner sets (known.Local n) x w h = P.weaker w.modules w.states h
+  holder_left owner sets (known.Cell n) x w h = name_left (value_in (live w.states owner) n) owner sets n (record x { holder = known.Cell n }) w h
+  holder_left owner sets (known.Constant n) x w h = h
+  holder_left owner sets (known.Life l) x w h = P.weaker w.modules w.states h
+  holder_left owner sets known.Writable x w h = P.weaker w.modules w.states h
+  holder_left owner sets known.Derived x w h = P.weaker w.modules w.states h
+  holder_left owner sets (known.BuiltIn b) x w h = P.weaker w.modules w.states h
 
-  name_leaves : (owner : ℕ) (x : StoreCell) → Leaves P (name_subscribed owner x)
-  name_leaves owner x = record { held = λ w h. holder_left owner x.holder x w h }
+  name_leaves : (owner : ℕ) → Sets owner P.ends → (x : StoreCell) → Leaves P (name_subscribed owner x)
+  name_leaves owner sets x = record { held = λ w h. holder_left owner sets x.holder x w h }
 
   component_leaves : (c : Component) (owner : ℕ) → Sets owner P.ends → (props : List (ℕ × Val)) → Leaves P (run_component p c owner props)
   component_leaves c owner sets props =
-      then_leaves (record { held = λ w h. (in_turn_leaves (name_subscribed owner) c.stores (name_leaves owner)).held (opened c owner w) (opened_stays c owner sets w h) }) (λ u. script_leaves owner sets props c.script)
+      then_leaves (record { held = λ w h. (in_turn_leaves (name_subscribed owner) c.stores (name_leaves owner sets)).held (opened c owner w) (opened_stays c owner sets w h) }) (λ u. script_leaves owner sets props c.script)
 
   pub top_leaves : (i : ℕ) → Sets i P.ends → (props : List (ℕ × Val)) → Leaves P (run_top p i props)
   top_leaves i sets props = record { held = λ w h. by w (component_of p w i) refl h } where

@@ -8,16 +8,16 @@ use Rattle.sv_code.specs.declared.functions.CodeDecl.{CodeDecl}
 use Rattle.sv_code.specs.declared.functions.CodeStmt.{CodeStmt, CodeStmt-F, roll-CodeStmt, map-CodeStmt, fold-roll-CodeStmt, ind-CodeStmt}
 use Rattle.sv_code.specs.declared.functions.CodeStmtKind.{CodeStmtKind, CodeStmtKind-F, roll-CodeStmtKind, map-CodeStmtKind, fold-roll-CodeStmtKind}
 use Rattle.sv_code.specs.declared.program.Program.{Program}
-use Rattle.sv_frame.proofs.Outcomes.{Fact, Stays, Keeps, Leaves, if_left, then_held, then_keeps, done_keeps, failed_keeps, either_keeps, counted_keeps, ends_leaves}
+use Rattle.sv_frame.proofs.Outcomes.{Fact, Stays, Keeps, then_held, then_keeps, done_keeps, failed_keeps, either_keeps, counted_keeps}
 use Rattle.sv_frame.proofs.Values.{Each, each_made, Maybe, expr_keeps}
 use Rattle.sv_frame.proofs.Calls.{CallerKeeps}
 use Rattle.sv_meaning.specs.Calls.{Caller}
 use Rattle.sv_meaning.specs.Env.{Env, opened}
-use Rattle.sv_meaning.specs.Outcome.{Fails, Done, Meaning, Flow, Next, Broken, Continued, Returned}
+use Rattle.sv_meaning.specs.Outcome.{Done, Meaning, Flow, Next, Broken, Continued, Returned}
 use Rattle.sv_meaning.specs.Sight.{Ground}
-use Rattle.sv_meaning.specs.Statements.{value_or, may_show, subscribe, subscribe_if, go_on, in_order, after_turn, tested, turns, loop, scoped, item_turns, over_list, each_step, otherwise, for_step, Doing, Silent, Counts, done, Arm, first_of, valued, decl_of, stmt_kind_step, stmt_step, arm_step, run, doing_of, arm_of}
+use Rattle.sv_meaning.specs.Statements.{value_or, go_on, in_order, after_turn, tested, turns, loop, scoped, item_turns, over_list, each_step, otherwise, for_step, Doing, Silent, Counts, done, Arm, first_of, valued, decl_of, stmt_kind_step, stmt_step, arm_step, run, doing_of, arm_of}
 use Rattle.sv_meaning.specs.Values.{value}
-use Rattle.sv_ops.specs.declared.faults.FaultKind.TheVariants.{NotAList, NotAStore, Steps}
+use Rattle.sv_ops.specs.declared.faults.FaultKind.TheVariants.{NotAList, Steps}
 use Rattle.sv_value.specs.Change.{truthy}
 use Rattle.sv_value.specs.Value.{Val, undefined, null, boolean, number, text, list, object, function, store, items}
 
@@ -27,13 +27,6 @@ module _ {p : Program} {P : Fact} (stays : Stays p P) where
   pub value_or_keeps : (o : Option (Meaning Val)) → Maybe (Keeps P) o → Keeps P (value_or o)
   value_or_keeps None h = done_keeps undefined
   value_or_keeps (Some m) h = h
-
-  pub subscribe_leaves : (owner cell : ℕ) (source : Option ℕ) (s : Span) (v : Val) → Leaves P (subscribe owner cell source s v)
-  subscribe_leaves owner cell source s v = record { held = λ w h. if_left P (may_show source v) _ (Fails NotAStore s w) (stays.subscribed w.modules w.states (record { inst = owner; cell = cell }) source v h) (P.weaker w.modules w.states h) }
-
-  pub subscribe_if_leaves : (o : Option ℕ) (owner : ℕ) (source : Option ℕ) (s : Span) (v : Val) → Leaves P (subscribe_if o owner source s v)
-  subscribe_if_leaves None owner source s v = ends_leaves tt
-  subscribe_if_leaves (Some cell) owner source s v = subscribe_leaves owner cell source s v
 
   go_on_keeps : (f : Flow) {m : Meaning Flow} → Keeps P m → Keeps P (go_on f m)
   go_on_keeps Next k = k

@@ -1,6 +1,6 @@
 -- Behind whatever scripts do, derived stores are what their functions gave.
 use Rattle.std.proofs.Common.{◌≡◌, ℕ, zero, suc, ◌<◌, List, [], ◌∷◌, length, Option, Some, None, refl, sym, ap, ◌∙◌, arith, Bool, true, false, nat_eq, subst, ⊎_elim, is_some, if◌then◌else◌}
-use Rattle.std.specs.Prelude.{◌||◌}
+use Rattle.std.specs.Prelude.{◌||◌, slice_set}
 use Rattle.std.proofs.lemmas.Bool.{cases_Bool, true≢false}
 use Rattle.std.proofs.lemmas.Option.{none-some}
 use Rattle.sv_code.specs.declared.program.Program.{Program}
@@ -9,9 +9,9 @@ use Rattle.sv_derived.specs.Derived.{Recipe, Derived, with_one, found, next, fro
 use Rattle.sv_derived.specs.Order.{AreBelow, IsOrdered}
 use Rattle.sv_frame.proofs.Computing.{Standing, Calm, calm-same, calm-then, calm-enqueued, calm-followed, calm-subscribed, calm-viewed, standing-calm, standing-mapped, standing-set, stirred, computed-on, below-any, computing}
 use Rattle.sv_frame.proofs.Deriving.{derive-same}
-use Rattle.sv_frame.proofs.Outcomes.{at_ends, Left, MaySet, Stays}
+use Rattle.sv_frame.proofs.Outcomes.{at_ends, Left, MaySet, Stays, Sets}
 use Rattle.sv_frame.proofs.Settling.{Settled, settles-all}
-use Rattle.sv_frame.proofs.Stepping.{Setups}
+use Rattle.sv_frame.proofs.Stepping.{Setups, either_world}
 use Rattle.sv_frame.proofs.Stored.{value-more, value-last, value-dropped, inputs-same, IsOne, found-one, found-more}
 use Rattle.sv_frame.specs.Computed.{IsComputed, AreComputed}
 use Rattle.sv_frame.specs.Snapshots.{world_of}
@@ -201,19 +201,24 @@ module _ {p : Program} where
 
   -- ---- whatever scripts do
 
-  pub computed-setups : Setups (AreComputed p)
+  computed-setups : Setups (AreComputed p)
   computed-setups s f n h = computed-calm s (with_instance (λ i. record i { setup = f i.setup }) s n) (record { derived = refl; count = refl; values = λ id. refl }) h
 
   pub computed_stay : Stays p (at_ends (AreComputed p))
   computed_stay = record {
     left = λ ms s f n e h. computed-setups s f n h;
-    declared = λ ms s q v h. computed-calm s _ (record { derived = refl; count = refl; values = λ id. refl }) h;
-    subscribed = λ ms s q source v h. computed-calm s _ (calm-subscribed s q source v) h;
     with_store = λ ms s v h. computed-store s v h;
     with_derived = λ room w w' owner r v below gave h. computed-derived room w w' owner r v below gave h;
     settles = λ room w h. computed_behind room w (computed-standing w.states h);
     assigned = λ room w n c v may h. computed_behind room (record w { states = assigned w.states n c v }) (standing-assigned w.states n c v may (computed-standing w.states h));
     store_set = λ room w id v may h. computed_behind room (record w { states = store_set w.states id v }) (standing-set w.states id v (store-free w.states id may) (computed-standing w.states h));
+  }
+
+  pub computed_sets : (owner : ℕ) → Sets owner (λ ms. AreComputed p)
+  computed_sets owner = record {
+    constant = λ w file n v h. either_world (AreComputed p) (nat_eq owner 0) _ _ h (computed-setups w.states (λ u. record u { constants = slice_set u.constants n (Some v) }) owner h);
+    declared = λ ms s cell v h. computed-calm s _ (record { derived = refl; count = refl; values = λ id. refl }) h;
+    subscribed = λ ms s cell source v h. computed-calm s _ (calm-subscribed s (record { inst = owner; cell = cell }) source v) h;
   }
 
   -- ---- what the page does besides

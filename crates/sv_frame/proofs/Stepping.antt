@@ -20,15 +20,20 @@ use Rattle.sv_world.specs.declared.world.World.{World}
 abbrev pub Setups : (States → Type 0) → Type 0
 Setups P = (s : States) (f : Setup → Setup) (n : ℕ) → P s → P (with_instance (λ i. record i { setup = f i.setup }) s n)
 
-either_world : (P : States → Type 0) (b : Bool) (x y : World) → P x.states → P y.states → P (if b then x else y).states
+pub either_world : (P : States → Type 0) (b : Bool) (x y : World) → P x.states → P y.states → P (if b then x else y).states
 either_world P true x y h k = h
 either_world P false x y h k = k
 
--- so it does where constants get values
-pub sets_by : {P : States → Type 0} → Setups P → (owner : ℕ) → Sets owner (λ ms. P)
-sets_by {P = P} setups owner = record { constant = λ w file n v h. either_world P (nat_eq owner 0) _ _ h (setups w.states (λ u. record u { constants = slice_set u.constants n (Some v) }) owner h) }
+-- it stays true whatever code does to the states, one thing at a time
+pub record CodeSteps (P : States → Type 0) : Type 0 where
+  pub left : (s : States) (f : Setup → Setup) (n : ℕ) → ((u : Setup) → (f u).constants ≡ u.constants) → P s → P (with_instance (λ i. record i { setup = f i.setup }) s n)
+  pub assigned : (s : States) (n c : ℕ) (v : Val) → P s → P (states.assigned s n c v)
+  pub store_set : (s : States) (id : ℕ) (v : Val) → P s → P (states.store_set s id v)
+  pub computed : (s : States) (id : ℕ) (v : Val) → P s → P (states.computed s id v)
+  pub with_store : (s : States) (v : Val) → P s → P (states_change.with_store s v)
+  pub with_derived : (s : States) (owner : ℕ) (r : Recipe) (v : Val) → P s → P (states_change.with_derived s owner r v)
 
--- it stays true whatever else is done to the states, one thing at a time
+-- so it does whatever the top of a file does besides, but for constants
 pub record Steps (P : States → Type 0) : Type 0 where
   pub left : (s : States) (f : Setup → Setup) (n : ℕ) → ((u : Setup) → (f u).constants ≡ u.constants) → P s → P (with_instance (λ i. record i { setup = f i.setup }) s n)
   pub assigned : (s : States) (n c : ℕ) (v : Val) → P s → P (states.assigned s n c v)
@@ -39,8 +44,19 @@ pub record Steps (P : States → Type 0) : Type 0 where
   pub declared : (s : States) (at : Subscriber) (v : Val) → P s → P (states_change.declared s at v)
   pub subscribed : (s : States) (at : Subscriber) (source : Option ℕ) (v : Val) → P s → P (states_change.subscribed_to s at source v)
 
--- so it does where something stays true of the constants of module files, which nothing of that changes
-module _ {P : States → Type 0} (steps : Steps P) (p : Program) (T : Modules → Type 0) where
+code_of : {P : States → Type 0} → Steps P → CodeSteps P
+code_of steps = record { left = steps.left; assigned = steps.assigned; store_set = steps.store_set; computed = steps.computed; with_store = steps.with_store; with_derived = steps.with_derived }
+
+-- so it does at the top of a file
+pub sets_by : {P : States → Type 0} → Setups P → Steps P → (owner : ℕ) → Sets owner (λ ms. P)
+sets_by {P = P} setups steps owner = record {
+  constant = λ w file n v h. either_world P (nat_eq owner 0) _ _ h (setups w.states (λ u. record u { constants = slice_set u.constants n (Some v) }) owner h);
+  declared = λ ms s cell v h. steps.declared s (record { inst = owner; cell = cell }) v h;
+  subscribed = λ ms s cell source v h. steps.subscribed s (record { inst = owner; cell = cell }) source v h;
+}
+
+-- what code does leaves it true, and what is true of the constants of module files, which nothing of that changes
+module _ {P : States → Type 0} (steps : CodeSteps P) (p : Program) (T : Modules → Type 0) where
   abbrev Both : Modules → States → Type 0
   Both ms s = P s × T ms
 
@@ -63,11 +79,9 @@ module _ {P : States → Type 0} (steps : Steps P) (p : Program) (T : Modules �
   derived_stays : (w w' : World) (room owner : ℕ) (r : Recipe) (v : Val) → derive p room owner r w ≡ Ends v w' → Both w.modules w.states → Both w'.modules (states_change.with_derived w'.states owner r v)
   derived_stays w w' room owner r v e h = let k = subst (Left (anyway Both)) e (derive_left (anyway Both) p room owner r w h) in (steps.with_derived w'.states owner r v k.0, k.1)
 
-  pub both_steps_stay : Stays p (anyway Both)
-  both_steps_stay = record {
+  pub both_code_stays : Stays p (anyway Both)
+  both_code_stays = record {
     left = λ ms s f n e h. (steps.left s f n e h.0, h.1);
-    declared = λ ms s at v h. (steps.declared s at v h.0, h.1);
-    subscribed = λ ms s at source v h. (steps.subscribed s at source v h.0, h.1);
     with_store = λ ms s v h. (steps.with_store s v h.0, h.1);
     with_derived = λ room w w' owner r v below e h. derived_stays w w' room owner r v e h;
     settles = settled_left;
@@ -75,19 +89,24 @@ module _ {P : States → Type 0} (steps : Steps P) (p : Program) (T : Modules �
     store_set = λ room w id v may h. settled_left room (record w { states = states.store_set w.states id v }) (steps.store_set w.states id v h.0, h.1);
   }
 
-module _ {P : States → Type 0} (steps : Steps P) (p : Program) where
+module _ {P : States → Type 0} (steps : CodeSteps P) (p : Program) where
   first_of : {A : Type 0} (e : Ending A) → Left (anyway (λ ms s. P s × Unit {0})) e → Left (always P) e
   first_of (Ends a w) h = h.0
   first_of (Fails k s w) h = h.0
 
-  pub steps_stay : Stays p (always P)
-  steps_stay = let k = both_steps_stay steps p (λ ms. Unit {0}) in record {
+  pub code_stays : Stays p (always P)
+  code_stays = let k = both_code_stays steps p (λ ms. Unit {0}) in record {
     left = λ ms. steps.left;
-    declared = λ ms. steps.declared;
-    subscribed = λ ms. steps.subscribed;
     with_store = λ ms. steps.with_store;
     with_derived = λ room w w' owner r v below e h. (k.with_derived room w w' owner r v below e (h, tt)).0;
     settles = λ room w h. first_of (settled (derive p room) w) (k.settles room w (h, tt));
     assigned = λ room w n c v may h. first_of (settled (derive p room) (record w { states = states.assigned w.states n c v })) (k.assigned room w n c v may (h, tt));
     store_set = λ room w id v may h. first_of (settled (derive p room) (record w { states = states.store_set w.states id v })) (k.store_set room w id v may (h, tt));
   }
+
+module _ {P : States → Type 0} (steps : Steps P) (p : Program) where
+  pub both_steps_stay : (T : Modules → Type 0) → Stays p (anyway (λ ms s. P s × T ms))
+  both_steps_stay T = both_code_stays (code_of steps) p T
+
+  pub steps_stay : Stays p (always P)
+  steps_stay = code_stays (code_of steps) p

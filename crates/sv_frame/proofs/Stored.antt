@@ -33,7 +33,7 @@ ints_same a b e = (Decides-int_eq a b).0 (go (int_eq a b) e) where
   go true e = refl
   go false e = absurd (true≢false e)
 
-differs-same : (a b : Val) → differs a b ≡ false → a ≡ b
+pub differs-same : (a b : Val) → differs a b ≡ false → a ≡ b
 differs-same undefined undefined e = refl
 differs-same null null e = refl
 differs-same (boolean a) (boolean b) e = ap boolean (bools_same a b e)

@@ -19,7 +19,6 @@ use Rattle.sv_flush.specs.Page.{begun, blank}
 use Rattle.sv_flush.specs.declared.page.Page.{Page}
 use Rattle.sv_frame.proofs.Altering.{view_of}
 use Rattle.sv_frame.proofs.Running.{modules_leave, top_leaves, reactive_leaves}
-use Rattle.sv_frame.proofs.Stepping.{sets_by}
 use Rattle.sv_frame.specs.Views.{lent_views}
 use Rattle.sv_instance.specs.Instance.{born}
 use Rattle.sv_instance.specs.declared.callbacks.When.TheVariants.{Before}
@@ -34,7 +33,7 @@ use Rattle.sv_seen.proofs.Making.{Right, IsHidden, Hidden, lent_if_brings, Bring
 use Rattle.sv_seen.proofs.Plans.{Bears}
 use Rattle.sv_seen.proofs.Showing.{OneRight, AllRight, all-born, none-shown}
 use Rattle.sv_seen.proofs.Spots.{spots, place_of, tags_at, AreMade, tags-are, component-is}
-use Rattle.sv_seen.proofs.Steps.{knows_setups, knows_stay, back_leaves, same-setup, same-snapshot, on-same, scripted_brings, world_brings}
+use Rattle.sv_seen.proofs.Steps.{knows_sets, knows_stay, back_leaves, same-setup, same-snapshot, on-same, scripted_brings, world_brings}
 use Rattle.sv_seen.specs.Seen.{IsShownRight, AreShownRight, FirstPageIsRight}
 use Rattle.sv_shapes.specs.declared.shown.Shown.{Shown}
 use Rattle.sv_states.specs.Change.{added, place_below}
@@ -93,7 +92,7 @@ module _ (p : Program) (within : ArePartsWithin p) (keys : AreAllKeysSeen p) whe
   started_brings : (run : List Effect → Task) (from n : ℕ) (props : List Given) (view : Option View) → HandsView (AreMade from) view → Bring p within keys run
       → Brings (Hidden p from n) (Right p from) (started p run n props view)
   started_brings run from n props view made k =
-      brings_then (brings_then (scripted_brings (IsHidden p from n) (λ known lent. top_leaves (knows_stay p known lent) n (sets_by (knows_setups known lent) n) (passed props))) (λ _. brings_then (lent_if_brings p from n view made) (λ _. nothing_brings))) (λ _.
+      brings_then (brings_then (scripted_brings (IsHidden p from n) (λ known lent. top_leaves (knows_stay p known lent) n (knows_sets known lent n) (passed props))) (λ _. brings_then (lent_if_brings p from n view made) (λ _. nothing_brings))) (λ _.
       brings_then (readied_brings p from n) (λ _.
       brings_then (shown_brings p within keys run from n k) (λ _.
       brings_then (changed_brings {Q = Right p from} {R = Right p from} (mount_waits n) (λ m h. h)) (λ _.
@@ -141,7 +140,7 @@ module _ (p : Program) (within : ArePartsWithin p) (keys : AreAllKeysSeen p) whe
   mounted_brings : (from : ℕ) → Brings (Right p from) (Right p from) (mounted p)
   unfolding mounted
   mounted_brings from =
-      brings_then (scripted_brings (AllRight p from) (λ known lent. modules_leave (knows_stay p known lent) (λ ms ms' s h. h))) (λ _.
+      brings_then (scripted_brings (AllRight p from) (λ known lent. modules_leave (knows_stay p known lent) (knows_sets known lent 0) (λ ms ms' s h. h))) (λ _.
       made_then p from root_site (λ n. started_brings (effects DEPTH_LIMIT p n) from n [] None tt (all_effects_bring (created_in DEPTH_LIMIT p) n (creations_bring DEPTH_LIMIT))))
 
 -- ---- the first page

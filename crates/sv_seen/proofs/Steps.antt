@@ -12,9 +12,9 @@ use Rattle.sv_flush.specs.Outcome.{in_world, ended, scripted}
 use Rattle.sv_flush.specs.Showing.{tag_shown, tag_kept, tags_kept}
 use Rattle.sv_flush.specs.declared.page.Page.{Page}
 use Rattle.sv_frame.proofs.Altering.{lent_setups, pictures-altered, pictures-viewed, pictures_setup, pictures_stay, plain_view, view_of}
-use Rattle.sv_frame.proofs.Outcomes.{at_ends, Stays, Leaves, Left, both_stay, ends_stay, then_leaves, ends_leaves}
+use Rattle.sv_frame.proofs.Outcomes.{at_ends, Stays, Sets, Leaves, Left, both_stay, both_sets, ends_stay, then_leaves, ends_leaves}
 use Rattle.sv_frame.proofs.Running.{called_leaves, in_turn_leaves}
-use Rattle.sv_frame.proofs.Stepping.{Setups, steps_stay}
+use Rattle.sv_frame.proofs.Stepping.{sets_by, steps_stay}
 use Rattle.sv_frame.specs.Views.{lent_views}
 use Rattle.sv_instance.specs.Standing.{Place}
 use Rattle.sv_instance.specs.declared.callbacks.When.{When}
@@ -51,8 +51,8 @@ same-then s t u h k = (k.0 ∙ h.0, k.1 ∙ h.1)
 pub knows_stay : (p : Program) (known : List (Option Place)) (lent : List (Option (Option View))) → Stays p (at_ends (Knows known lent))
 knows_stay p known lent = both_stay (ends_stay (steps_stay (pictures_stay plain_place known) p)) (ends_stay (steps_stay (pictures_stay plain_view lent) p))
 
-pub knows_setups : (known : List (Option Place)) (lent : List (Option (Option View))) → Setups (Knows known lent)
-knows_setups known lent s f n h = (pictures_setup {g = place_of} (λ i u. refl) known s f n h.0, lent_setups lent s f n h.1)
+pub knows_sets : (known : List (Option Place)) (lent : List (Option (Option View))) (n : ℕ) → Sets n (λ ms. Knows known lent)
+knows_sets known lent n = both_sets (sets_by (pictures_setup {g = place_of} (λ i u. refl) known) (pictures_stay plain_place known) n) (sets_by (lent_setups lent) (pictures_stay plain_view lent) n)
 
 -- the callbacks of an instance
 pub back_leaves : (p : Program) (n : ℕ) (when : When) (known : List (Option Place)) (lent : List (Option (Option View))) → Leaves (at_ends (Knows known lent)) (all_called_back p n when)

@@ -10,7 +10,7 @@ use Rattle.sv_course.proofs.WatchingPages.{IsUnmade, IsWatching, watched_loaded}
 use Rattle.sv_course.proofs.WatchingPhases.{Watched}
 use Rattle.sv_family.proofs.Blank.{family_blank, filled_blank}
 use Rattle.sv_family.proofs.Numbering.{numbers_blank}
-use Rattle.sv_family.proofs.Scripts.{About, At, are_stay, scripted_brings}
+use Rattle.sv_family.proofs.Scripts.{About, At, are_sets, are_stay, scripted_brings}
 use Rattle.sv_family.proofs.Whole.{Whole}
 use Rattle.sv_family.specs.Kin.{kins}
 use Rattle.sv_flush.proofs.Blank.{blank_tracked}
@@ -59,7 +59,7 @@ module _ (p : Program) (compiled : IsCompiled p) (course : (ms : Modules) → Co
   Loaded m = At Empty m × IsWatching p m
 
   loaded : Brings (λ m. At Empty m × IsUnmade m.showing.shown m.world.states) Loaded (scripted (run_modules p))
-  loaded = both_bring (scripted_brings Empty (λ old. modules_leave (are_stay p old) (λ ms ms' s h. h))) (watched_loaded p)
+  loaded = both_bring (scripted_brings Empty (λ old. modules_leave (are_stay p old) (are_sets old 0) (λ ms ms' s h. h))) (watched_loaded p)
 
   blank_loaded : Afterwards Loaded (scripted (run_modules p) (begun blank))
   blank_loaded = loaded.held (begun blank) (((family_blank p blank.counters.next, numbers_blank blank.counters.next, filled_blank p), λ ms. true_blank p ms blank.counters.next), (blank_tracked, refl))
