@@ -1,0 +1,11 @@
+pub mod Known
+pub mod Standing
+pub mod Ways
+pub mod Following
+pub mod Adding
+pub mod Stages
+pub mod Opening
+pub mod Declaring
+pub mod Script
+pub mod Phases
+pub mod Turning
