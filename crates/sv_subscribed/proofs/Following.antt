@@ -31,10 +31,11 @@ use Rattle.sv_states.specs.Moving.{Goal, goal_of, stores_after, leaves, comes, s
 use Rattle.sv_states.specs.Sound.{has_subscription, is_subscriber, IsSound}
 use Rattle.sv_states.specs.States.{States, live, with_instance, cell_in, value_in}
 use Rattle.sv_states.specs.Waiting.{joins, queued, enqueued}
-use Rattle.sv_store.specs.Stores.{Store, Subscriber, same_subscriber, with_value, differs_at, subscribers_at, value_at}
+use Rattle.sv_store.specs.Stores.{Store, Subscriber, same_subscriber, with_value, differs_at, subscribers_at, value_at, IsOnce}
 use Rattle.sv_value.specs.Value.{Val, undefined, null, boolean, number, text, list, object, function, store}
 use Rattle.sv_view.specs.Cell.{Cell}
 use Rattle.sv_subscribed.proofs.Known.{name-placed, follower-is}
+use Rattle.sv_subscribed.proofs.Once.{once-store_set, once-sent, once-made}
 use Rattle.sv_subscribed.proofs.Standing.{Modules, Stand, nowhere, stand-more, stand-valued, stand-assigned, stand-told, stand-followed, stand-unfollowed}
 use Rattle.sv_subscribed.proofs.Ways.{if_either, Holds, went-all, went-down}
 use Rattle.sv_subscribed.specs.Apart.{HoldApart, IsApart, AreApart}
@@ -332,12 +333,14 @@ module _ (p : Program) (many : ℕ) (ms : Modules) (apart : AreApart p) (Old : �
   pub record Goes (s : States) : Type 0 where
     pub sound : IsSound s
     pub enough : many ≤ length s.stores
+    pub once : IsOnce s.stores
     pub all : All none none undefined s
 
   goes-sent : (w : Way) (v : Val) (s : States) → Each (Holds v (written w.cells w.store v s)) w.cells → Goes s → Goes (sent w v s)
   goes-sent w v s holds h = record {
     sound = sound-sent s w v h.sound;
     enough = let e = ap (λ (x : List ℕ × ℕ). x.1) (tally-sent s w v) in let k = h.enough in omega (arith, e, k);
+    once = once-sent w v s h.sound h.once;
     all = all-sent w v s holds h.enough (sound-names s h.sound) h.all;
   }
 
@@ -346,6 +349,7 @@ module _ (p : Program) (many : ℕ) (ms : Modules) (apart : AreApart p) (Old : �
   goes-left s f n e h = record {
     sound = sound-inert (λ i. record i { setup = f i.setup }) s n (λ i. refl) (λ i. refl) (λ i. refl) h.sound;
     enough = h.enough;
+    once = h.once;
     all = altered_at (Is none none undefined) (Is none none undefined) (λ i. record i { setup = f i.setup }) s n h.all
         (λ i there k. (
           λ old c is. subst (Stand many ms c.stores (none n) (none n) undefined i.subscriptions i.cells.now) (sym (e i.setup)) (k.0 old c is),
@@ -358,6 +362,7 @@ module _ (p : Program) (many : ℕ) (ms : Modules) (apart : AreApart p) (Old : �
   goes-set s t id v lives stores sound h = record {
     sound = sound;
     enough = let e = ap (λ (x : List ℕ × ℕ). x.1) (tally-sent t (record { cells = []; store = Some id }) v) in let k = h.enough in let l = ap length stores in omega (arith, e, k, l);
+    once = once-store_set t id v (subst IsOnce (sym stores) h.once);
     all = all-set none none undefined t id v (λ n c i is. ap (λ l. is_some (name_in (at l n) c)) lives ∙ sound-names s h.sound n c i (ap (λ l. list_any (same_subscriber (record { inst = n; cell = c })) (subscribers_at l i)) (sym stores) ∙ is))
         (λ n i there. h.all n i (ap (λ l. at l n) (sym lives) ∙ there));
   }
@@ -368,8 +373,8 @@ module _ (p : Program) (many : ℕ) (ms : Modules) (apart : AreApart p) (Old : �
     assigned = λ s n c v h. goes-sent (way_of s n c v) v s (went-all s s n c v (λ m d. refl)) h;
     store_set = λ s id v h. goes-set s s id v refl refl (sound-sent s (record { cells = []; store = Some id }) v h.sound) h;
     computed = λ s id v h. goes-set s (record s { derived = done s.derived id }) id v refl refl (sound-computed s id v h.sound) h;
-    with_store = λ s v h. record { sound = sound-store s v h.sound; enough = let l = length_push s.stores (record { value = v; subscribers = [] }) in let k = h.enough in omega (arith, l, k); all = h.all };
-    with_derived = λ s owner r v h. record { sound = sound-derived s owner r v h.sound; enough = let l = length_push s.stores (record { value = v; subscribers = [] }) in let k = h.enough in omega (arith, l, k); all = h.all };
+    with_store = λ s v h. record { sound = sound-store s v h.sound; enough = let l = length_push s.stores (record { value = v; subscribers = [] }) in let k = h.enough in omega (arith, l, k); once = once-made s.stores v h.once; all = h.all };
+    with_derived = λ s owner r v h. record { sound = sound-derived s owner r v h.sound; enough = let l = length_push s.stores (record { value = v; subscribers = [] }) in let k = h.enough in omega (arith, l, k); once = once-made s.stores v h.once; all = h.all };
   }
 
   pub goes_stay : Stays p (ending (λ now s. Goes s × (now ≡ ms)))
@@ -389,6 +394,7 @@ module _ (p : Program) (many : ℕ) (ms : Modules) (apart : AreApart p) (Old : �
     goes-now = record {
       sound = sound-inert (with_bound b) s n (λ i. refl) (λ i. refl) (λ i. refl) h.sound;
       enough = h.enough;
+      once = h.once;
       all = altered_at (Is none none undefined) (Is none none undefined) (with_bound b) s n h.all
           (λ i there k. (λ old c is. k.0 old c is, (rides n).setup i (record i.setup { bounds = b ∷ i.setup.bounds }) refl k.1)) (λ m i other k. k);
     }

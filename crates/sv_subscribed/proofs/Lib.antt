@@ -1,6 +1,7 @@
 pub mod Known
 pub mod Standing
 pub mod Ways
+pub mod Once
 pub mod Following
 pub mod Adding
 pub mod Stages

@@ -35,7 +35,8 @@ use Rattle.sv_states.proofs.Making.{tally-viewed, tally-removed}
 use Rattle.sv_states.proofs.Sounding.{sound-viewed, sound-added, sound-snapped, sound-removed}
 use Rattle.sv_instance.specs.Bound.{Bound}
 use Rattle.sv_states.specs.Assignment.{handed_down, bound_up}
-use Rattle.sv_store.specs.Stores.{Subscriber}
+use Rattle.sv_store.proofs.Counts.{once-dropped}
+use Rattle.sv_store.specs.Stores.{Subscriber, IsOnce}
 use Rattle.sv_states.specs.Change.{added, removed, with_view, viewed}
 use Rattle.sv_states.specs.States.{States, live, with_instance, has_cell}
 use Rattle.sv_states.specs.Waiting.{joins, queued, enqueued, snapped}
@@ -216,6 +217,7 @@ module _ (p : Program) where
       at-viewed n c view takes = (
         (
           record {
+            once = if_either (λ t. IsOnce t.stores) (has_cell (live s n) c) (enqueued (with_instance (with_view c view) s n) n) s h.0.0.once h.0.0.once;
             sound = sound-viewed s n c view h.0.0.sound;
             enough = let e = ap (λ (x : List ℕ × ℕ). x.1) (tally-viewed s n c view) in let k = h.0.0.enough in omega (arith, e, k);
             all = if_either (λ t. (m : ℕ) (i : Instance) → live t m ≡ Some i → each m i) (has_cell (live s n) c) (enqueued (with_instance (with_view c view) s n) n) s
@@ -239,6 +241,7 @@ module _ (p : Program) where
           record {
             sound = sound-snapped s n h.0.0.sound;
             enough = h.0.0.enough;
+            once = h.0.0.once;
             all = altered_at each each waiting.shown s n h.0.0.all (λ i there k. (λ o comp is. k.0 o comp is, (λ new. absurd (old new), k.1.1))) (λ m i other k. k);
           },
           h.0.1,
@@ -257,6 +260,7 @@ module _ (p : Program) where
           record {
             sound = sound-removed s n h.0.0.sound;
             enough = let e = ap (λ (x : List ℕ × ℕ). x.1) (tally-removed s n) in let k = h.0.0.enough in omega (arith, e, k);
+            once = once-dropped n s.stores h.0.0.once;
             all = λ m i there. h.0.0.all m i (before n m i there);
           },
           h.0.1,
@@ -282,6 +286,7 @@ module _ (p : Program) where
         record {
           sound = sound-added s (born place (cell_count c) c.constants) (new-born place (cell_count c) c.constants) h.0.0.sound;
           enough = h.0.0.enough;
+          once = h.0.0.once;
           all = λ m i there. ⊎_elim (λ same. new m i same there) (λ other. old m i other there) (cases_eq m (length s.lives));
         },
         h.0.1,
@@ -348,6 +353,7 @@ module _ (p : Program) where
           record {
             sound = h.0.0.sound;
             enough = h.0.0.enough;
+            once = h.0.0.once;
             all = λ m i there. (
               λ some c is. ⊎_elim
                   (λ same. absurd (none-some c (sym e ∙ (ap (component_for p) (ap (live w.states) (sym same) ∙ there) ∙ is))))
@@ -365,7 +371,7 @@ module _ (p : Program) where
       join : (c : Component) (its : IsApart c) (now : Modules) (s : States) → Script p many ms apart n h.1.1 c its [] now s → pictures file_of s ≡ old → Peopled (Unit {0}) s → At nobody (Unit {0}) now s
       join c its now s k same some = (
         (
-          record { sound = k.0.sound; enough = k.0.enough; all = λ m i there. (λ o. (k.0.all m i there).0 tt, (λ no. absurd no, same_one w.states s m i same ones there)) },
+          record { sound = k.0.sound; enough = k.0.enough; once = k.0.once; all = λ m i there. (λ o. (k.0.all m i there).0 tt, (λ no. absurd no, same_one w.states s m i same ones there)) },
           k.1,
         ),
         some,
@@ -375,6 +381,7 @@ module _ (p : Program) where
       bare c its e = record {
         sound = h.0.0.sound;
         enough = h.0.0.enough;
+        once = h.0.0.once;
         beside = λ m i there. (
           λ other. (h.0.0.all m i there).0 other,
           λ same. raw-bare many ms c its i (sym (ap (component_for p) (ap (live w.states) (sym same) ∙ there)) ∙ e) ((h.0.0.all m i there).1.0 same),

@@ -188,6 +188,7 @@ module _ (p : Program) (many : ℕ) (ms : Modules) (apart : AreApart p) (n : ℕ
     record {
       sound = h.0.sound;
       enough = h.0.enough;
+      once = h.0.once;
       all = λ m i there. let k = h.0.all m i there in (k.0, λ same. let d = k.1 same in record { open_yet = d.open_yet; absent = each_back (IsAbsent p many ms c its i.subscriptions) more rest d.absent });
     },
     h.1,
@@ -198,6 +199,7 @@ module _ (p : Program) (many : ℕ) (ms : Modules) (apart : AreApart p) (n : ℕ
     record {
       sound = h.0.sound;
       enough = h.0.enough;
+      once = h.0.once;
       beside = λ m i there. let k = h.0.all m i there in (λ other. k.0 tt, λ same. named-well p many ms c its rest i (k.1 same) (k.0 tt));
     },
     h.1,
@@ -208,6 +210,7 @@ module _ (p : Program) (many : ℕ) (ms : Modules) (apart : AreApart p) (n : ℕ
     record {
       sound = h.0.sound;
       enough = h.0.enough;
+      once = h.0.once;
       all = λ m i there. let k = h.0.beside m i there in (
         λ old. ⊎_elim (λ same. well-named p many ms c its rest i (k.1 same)) (λ other. k.0 other) (cases_eq m n),
         λ same. IsWell.declaring (k.1 same),
@@ -348,6 +351,7 @@ module _ (p : Program) (many : ℕ) (ms : Modules) (apart : AreApart p) (n : ℕ
       record {
         sound = h.0.sound;
         enough = h.0.enough;
+      once = h.0.once;
         all = λ m i there. let k = h.0.beside m i there in (
           λ old. ⊎_elim (λ same. opened-names p many ms c its i (k.1 same)) (λ other. k.0 other) (cases_eq m n),
           λ same. opened-declares p many ms c its (declared_at_top c.script) i (k.1 same),

@@ -20,11 +20,12 @@ use Rattle.sv_states.specs.Moving.{Goal, goal_of, comes, name_in}
 use Rattle.sv_states.specs.Sound.{IsSound}
 use Rattle.sv_states.specs.States.{States, live, with_instance, has_cell}
 use Rattle.sv_states.specs.Waiting.{joins, queued, enqueued}
-use Rattle.sv_store.specs.Stores.{Subscriber}
+use Rattle.sv_store.specs.Stores.{Subscriber, IsOnce}
 use Rattle.sv_value.specs.Value.{Val, undefined}
 use Rattle.sv_world.specs.Setup.{set_up}
 use Rattle.sv_world.specs.declared.world.World.{World}
 use Rattle.sv_subscribed.proofs.Following.{altered_at}
+use Rattle.sv_subscribed.proofs.Once.{once-subscribed}
 use Rattle.sv_subscribed.proofs.Standing.{Modules, Stand, nowhere}
 use Rattle.sv_subscribed.proofs.Ways.{if_either}
 
@@ -47,6 +48,7 @@ module _ (p : Program) (many : ℕ) (ms : Modules) where
     pub record Stage (A : Instance → Type 0) (s : States) : Type 0 where
       pub sound : IsSound s
       pub enough : many ≤ length s.stores
+      pub once : IsOnce s.stores
       pub beside : Beside A s
 
     beside-altered : (A B : Instance → Type 0) (f : Instance → Instance) (s : States) → ((i : Instance) → live s n ≡ Some i → A i → B (f i)) → Beside A s → Beside B (with_instance f s n)
@@ -59,6 +61,7 @@ module _ (p : Program) (many : ℕ) (ms : Modules) where
     stage-mono A B s k h = record {
       sound = h.sound;
       enough = h.enough;
+      once = h.once;
       beside = λ m i there. ((h.beside m i there).0, λ same. k i (ap (live s) (sym same) ∙ there) ((h.beside m i there).1 same));
     }
 
@@ -66,14 +69,14 @@ module _ (p : Program) (many : ℕ) (ms : Modules) where
 
     pub stage-declared : (A B : Instance → Type 0) (s : States) (cell : ℕ) (v : Val) → ((i : Instance) → live s n ≡ Some i → A i → B (record i { cells = cells.declared i.cells cell v })) → Stage A s
         → Stage B (declared s (record { inst = n; cell = cell }) v)
-    stage-declared A B s cell v k h = record { sound = sound-declared s (record { inst = n; cell = cell }) v h.sound; enough = h.enough; beside = beside-altered A B _ s k h.beside }
+    stage-declared A B s cell v k h = record { sound = sound-declared s (record { inst = n; cell = cell }) v h.sound; enough = h.enough; once = h.once; beside = beside-altered A B _ s k h.beside }
 
     -- ---- a constant gets its value
 
     pub stage-constant : (A B : Instance → Type 0) (s : States) (cell : ℕ) (v : Val)
         → ((i : Instance) → live s n ≡ Some i → A i → B (record i { setup = record i.setup { constants = slice_set i.setup.constants cell (Some v) } })) → Stage A s
         → Stage B (with_instance (λ i. record i { setup = record i.setup { constants = slice_set i.setup.constants cell (Some v) } }) s n)
-    stage-constant A B s cell v k h = record { sound = sound-inert _ s n (λ i. refl) (λ i. refl) (λ i. refl) h.sound; enough = h.enough; beside = beside-altered A B _ s k h.beside }
+    stage-constant A B s cell v k h = record { sound = sound-inert _ s n (λ i. refl) (λ i. refl) (λ i. refl) h.sound; enough = h.enough; once = h.once; beside = beside-altered A B _ s k h.beside }
 
     -- ---- a cell becomes that of a `$` name
 
@@ -116,6 +119,7 @@ module _ (p : Program) (many : ℕ) (ms : Modules) where
       stage-subscribed h = record {
         sound = sound-subscribed s q source v h.sound;
         enough = let e = ap (λ (x : List ℕ × ℕ). x.1) (tally-subscribed s q source v) in let k = h.enough in omega (arith, e, k);
+        once = once-subscribed s q source v h.sound h.once;
         beside = by (may_follow s q) refl;
       } where
         g : Goal

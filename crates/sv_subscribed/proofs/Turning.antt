@@ -46,6 +46,7 @@ use Rattle.sv_states.specs.States.{States, live}
 use Rattle.sv_value.specs.Value.{undefined}
 use Rattle.sv_world.specs.declared.world.World.{World}
 use Rattle.sv_subscribed.proofs.Known.{of_name}
+use Rattle.sv_subscribed.proofs.Once.{once-nobody}
 use Rattle.sv_subscribed.proofs.Phases.{unit_of, file_of, plain_file, At, at_stay, standing_last}
 use Rattle.sv_subscribed.proofs.Standing.{Modules, Stand, IsNamed, IsUnnamed, nowhere}
 use Rattle.sv_subscribed.specs.Apart.{AreApart}
@@ -123,7 +124,7 @@ module _ (p : Program) (apart : AreApart p) where
           each
 
     told : AreSubscribed p (first_stores p) ms s
-    told = record { named = told_named; right = told_right; there = told_there }
+    told = record { named = told_named; right = told_right; there = told_there; once = h.0.0.once }
 
   -- ---- the first page
 
@@ -142,12 +143,19 @@ module _ (p : Program) (apart : AreApart p) where
   nobody_live : (s : States) → pictures file_of s ≡ None ∷ [] → (n : ℕ) (i : Instance) → live s n ≡ Some i → ⊥
   nobody_live s e n i there = none-some (file_of i) (sym (ap (λ l. at l n) e ∙ none_there n) ∙ picture_at file_of s n (Some i) there)
 
+  nobody_at : (s : States) → pictures file_of s ≡ None ∷ [] → (n : ℕ) → live s n ≡ None
+  nobody_at s e n = by (live s n) refl where
+    by : (o : Option Instance) → live s n ≡ o → live s n ≡ None
+    by None k = k
+    by (Some i) k = absurd (nobody_live s e n i k)
+
   begins : (w : World) (u : Unit {0}) → run_modules p (begun blank).world ≡ Ends u w → IsEmpty w.states → Stands w.modules w.states
   begins w u is h = (
     (
       record {
         sound = h.0.sound;
         enough = let e = ap (λ (x : Ending (Unit {0})). length (world_of x).states.stores) is in omega (arith, e);
+        once = once-nobody w.states h.0.sound (λ n. nobody_at w.states h.1 n);
         all = λ n i there. absurd (nobody_live w.states h.1 n i there);
       },
       sym (ap (λ (x : Ending (Unit {0})). (world_of x).modules) is),

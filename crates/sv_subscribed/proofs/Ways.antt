@@ -76,17 +76,17 @@ module _ (v : Val) where
   holds-end None s q h = h
   holds-end (Some id) s q h = if_either (λ t. Holds v t q) (differs_at s.stores id v) _ s (holds-told (subscribers_at s.stores id) (record s { stores = with_value s.stores id v; derived = marked s.derived id }) q h) h
 
-  holds-written : (ps : List Subscriber) (store : Option ℕ) (s : States) (q : Subscriber) → Holds v s q → Holds v (written ps store v s) q
+  pub holds-written : (ps : List Subscriber) (store : Option ℕ) (s : States) (q : Subscriber) → Holds v s q → Holds v (written ps store v s) q
   holds-written [] store s q h = holds-end store s q h
   holds-written (p ∷ ps) store s q h = holds-handing p (written ps store v) s q (λ t k. holds-written ps store t q k) h
 
 -- ---- cells that a value counts as a change of
 
-changes-cell : (o : Option Instance) (c : ℕ) (v : Val) → changes_in o c v ≡ changes_cell (cell_in o c) v
+pub changes-cell : (o : Option Instance) (c : ℕ) (v : Val) → changes_in o c v ≡ changes_cell (cell_in o c) v
 changes-cell None c v = refl
 changes-cell (Some i) c v = refl
 
-value-cell : (o : Option Instance) (c : ℕ) → value_in o c ≡ value_of (cell_in o c)
+pub value-cell : (o : Option Instance) (c : ℕ) → value_in o c ≡ value_of (cell_in o c)
 value-cell None c = refl
 value-cell (Some i) c = refl
 
@@ -95,7 +95,7 @@ changes-some None v e = e
 changes-some (Some c) v e = refl
 
 -- where it doesn't, the cell has the value, which is no change of itself
-unchanged : (o : Option Cell) (v : Val) → is_some o ≡ true → changes_cell o v ≡ false → value_of o ≡ Some v
+pub unchanged : (o : Option Cell) (v : Val) → is_some o ≡ true → changes_cell o v ≡ false → value_of o ≡ Some v
 unchanged None v some e = absurd (true≢false (sym some))
 unchanged (Some c) v some e = ap Some (differs-same c.value v e)
 
@@ -124,7 +124,7 @@ declared_within now c some = by (cell_at now c) refl some where
 abbrev StoredAt : States → Subscriber → Val → ℕ → Option Instance → Type 0
 StoredAt s p v m o = (c : ℕ) → (cell_in o c ≡ cell_in (live s m) c) ⊎ (((m ≡ p.inst) × (c ≡ p.cell)) × (cell_in o c ≡ assigned_cell (cell_in (live s m) c) v))
 
-stored-at : (s : States) (p : Subscriber) (v : Val) (m c : ℕ)
+pub stored-at : (s : States) (p : Subscriber) (v : Val) (m c : ℕ)
     → (cell_in (live (cell_stored s p v) m) c ≡ cell_in (live s m) c) ⊎ (((m ≡ p.inst) × (c ≡ p.cell)) × (cell_in (live (cell_stored s p v) m) c ≡ assigned_cell (cell_in (live s m) c) v))
 stored-at s p v m c = each_altered (StoredAt s p v) _ s.lives p.inst (λ k d. inl refl) (λ i there old d. by i there d (at_set i.cells.now p.cell d (assigned_cell (cell_at i.cells.now p.cell) v))) m c where
   by : (i : Instance) → live s p.inst ≡ Some i → (d : ℕ)

@@ -12,6 +12,7 @@ use Rattle.sv_meaning.specs.Components.{component_at}
 use Rattle.sv_meaning.specs.Runs.{run_modules}
 use Rattle.sv_states.specs.Sound.{is_subscriber}
 use Rattle.sv_states.specs.States.{States, live}
+use Rattle.sv_store.specs.Stores.{IsOnce}
 use Rattle.sv_value.specs.Value.{Val}
 use Rattle.sv_subscribed.specs.Holders.{IsAmong, store_held, held}
 
@@ -27,12 +28,13 @@ pub record HasName (p : Program) (s : States) (n : ℕ) (x : StoreCell) : Type 0
 abbrev pub held_now : List (List (Option Val)) → Instance → StoreCell → Option ℕ
 held_now ms i x = store_held (held ms i.cells.now i.setup.constants x.holder)
 
--- the subscribers of all stores are the `$` names of live instances, each at the store that its name holds and at no other. Those whose name holds one of
--- the first so many stores are there
+-- the subscribers of all stores are the `$` names of live instances, each once, at the store that its name holds and at no other. Those whose name holds one
+-- of the first so many stores are there
 pub record AreSubscribed (p : Program) (many : ℕ) (ms : List (List (Option Val))) (s : States) : Type 0 where
   pub named : (n c id : ℕ) → is_subscriber s n c id ≡ true → (x : StoreCell) × (HasName p s n x × (x.cell ≡ c))
   pub right : (n id : ℕ) (x : StoreCell) (name : HasName p s n x) → is_subscriber s n x.cell id ≡ true → held_now ms name.instance x ≡ Some id
   pub there : (n id : ℕ) (x : StoreCell) (name : HasName p s n x) → held_now ms name.instance x ≡ Some id → id < many → is_subscriber s n x.cell id ≡ true
+  pub once : IsOnce s.stores
 
 -- how many stores module files make
 abbrev pub first_stores : Program → ℕ
