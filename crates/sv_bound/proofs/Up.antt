@@ -1,9 +1,8 @@
 -- What takes a value on its way has it once `$` names followed.
-use Rattle.std.proofs.Common.{◌≡◌, ◌≢◌, ℕ, zero, suc, ◌<◌, Bool, true, false, List, [], ◌∷◌, Option, Some, None, option_map, is_some, refl, sym, ap, subst, ◌∙◌, arith, inl, inr, ◌⊎◌, ⊎_elim, if◌then◌else◌}
-use Rattle.std.proofs.lemmas.Bool.{cases_Bool, true≢false}
-use Rattle.std.proofs.lemmas.Option.{none-some, same_Some}
+use Rattle.std.proofs.Common.{◌≡◌, ℕ, zero, suc, ◌<◌, Bool, true, false, List, [], ◌∷◌, Option, Some, None, option_map, is_some, refl, sym, ap, subst, ◌∙◌, arith, ⊎_elim, if◌then◌else◌}
+use Rattle.std.proofs.lemmas.Bool.{true≢false}
+use Rattle.std.proofs.lemmas.Option.{none-some}
 use Rattle.sv_bound.specs.Up.{Has, HaveAll, IsPlain, IsDeclared, AreSame}
-use Rattle.sv_code.proofs.Each.{each_mono}
 use Rattle.sv_code.specs.Names.{Each}
 use Rattle.sv_instance.specs.Bound.{Bound, bound_at}
 use Rattle.sv_instance.specs.Cells as cells
@@ -13,7 +12,7 @@ use Rattle.sv_instance.specs.declared.instance.Instance.{Instance}
 use Rattle.sv_instance.specs.declared.subscriptions.Subscription.{Subscription}
 use Rattle.sv_numbered.specs.Numbered.{at, altered}
 use Rattle.sv_states.proofs.Calm.{each_altered}
-use Rattle.sv_states.specs.Assignment.{Way, onward, up, into, way_step, way, way_of, way_into, changes_in, cell_stored, handing, taken, told, store_set, end_set, written, placed_at, looked, moved, moved_if, followed, all_followed, sent, assigned, handed_down, with_bound, bound_over, bound_up}
+use Rattle.sv_states.specs.Assignment.{Way, onward, up, into, way_step, way, way_of, changes_in, cell_stored, handing, taken, told, end_set, written, placed_at, looked, moved_if, followed, all_followed, sent, assigned, handed_down, with_bound, bound_over, bound_up}
 use Rattle.sv_states.specs.Moving.{Goal, goal_of, stores_after, leaves, comes, store_in, name_in, follower_in}
 use Rattle.sv_states.specs.States.{States, live, with_instance, depth_of, cell_in, value_in, has_cell}
 use Rattle.sv_states.specs.Waiting.{joins, queued, enqueued}

@@ -1,5 +1,5 @@
 -- What stands in the cells that a value went to.
-use Rattle.std.specs.Prelude.{◌≡◌, ℕ, true, List, Some, None, is_some}
+use Rattle.std.specs.Prelude.{◌≡◌, ℕ, true, List, Some, None}
 use Rattle.sv_code.specs.Names.{Each}
 use Rattle.sv_instance.specs.Bound.{Bound}
 use Rattle.sv_states.specs.Moving.{name_in}

@@ -1,7 +1,7 @@
 -- How the `$` names of one instance stand while its script runs, which declares variables and constants and subscribes the names.
-use Rattle.std.proofs.Common.{◌≡◌, ◌≢◌, ℕ, Bool, true, false, List, [], ◌∷◌, ◌++◌, Option, Some, None, option_map, is_some, refl, sym, ap, subst, ◌∙◌, inl, inr, ◌⊎◌, ⊎_elim, nat_eq, slice_set, if◌then◌else◌}
-use Rattle.std.proofs.lemmas.Bool.{cases_eq, cases_Bool, eqb-true, eq-eqb, ne_eqb, true≢false}
-use Rattle.std.proofs.lemmas.Option.{none-some, same_Some}
+use Rattle.std.proofs.Common.{◌≡◌, ◌≢◌, ℕ, Bool, true, false, List, [], ◌∷◌, ◌++◌, Option, Some, None, option_map, is_some, refl, sym, ap, subst, ◌∙◌, inl, inr, ◌⊎◌, ⊎_elim, nat_eq, if◌then◌else◌}
+use Rattle.std.proofs.lemmas.Bool.{cases_eq, eq-eqb, ne_eqb}
+use Rattle.std.proofs.lemmas.Option.{none-some}
 use Rattle.sv_code.proofs.Each.{each_append}
 use Rattle.sv_code.specs.Names.{Each}
 use Rattle.sv_code.specs.declared.known.Known.{Known}
@@ -11,7 +11,7 @@ use Rattle.sv_instance.specs.Cells.{cell_at}
 use Rattle.sv_instance.specs.Subscriptions.{subscription_at}
 use Rattle.sv_instance.specs.declared.subscriptions.Subscription.{Subscription}
 use Rattle.sv_meaning.specs.Statements.{variable}
-use Rattle.sv_value.specs.Value.{Val, undefined}
+use Rattle.sv_value.specs.Value.{Val}
 use Rattle.sv_view.specs.Cell.{Cell}
 use Rattle.sv_view.specs.Constants.{constant_at}
 use Rattle.sv_subscribed.proofs.Known.{IsOf}

@@ -1,12 +1,10 @@
 -- What a declaration at the top of a script does to the instance whose script it is.
-use Rattle.std.proofs.Common.{◌≡◌, ◌≢◌, ℕ, ◌<◌, Bool, true, false, List, [], ◌∷◌, ◌++◌, length, Option, Some, None, option_map, is_some, refl, sym, ap, subst, ◌∙◌, arith, inl, inr, ◌⊎◌, ⊎_elim, nat_eq, slice_set, if◌then◌else◌}
+use Rattle.std.proofs.Common.{◌≡◌, ◌≢◌, ℕ, ◌<◌, true, List, [], ◌∷◌, ◌++◌, length, Option, Some, None, option_map, is_some, refl, sym, ap, subst, ◌∙◌, arith, inl, inr, ◌⊎◌, ⊎_elim, slice_set}
 use Rattle.std.proofs.lemmas.Bool.{cases_eq, true≢false}
 use Rattle.std.proofs.lemmas.List.{length-set, get_or-set_same, get_or-set_other}
 use Rattle.std.proofs.lemmas.Option.{none-some, same_Some}
-use Rattle.sv_code.proofs.Each.{each_mono}
 use Rattle.sv_code.specs.Names.{Each}
 use Rattle.sv_code.specs.declared.functions.CodeDecl.{CodeDecl}
-use Rattle.sv_code.specs.declared.known.Known.{Known}
 use Rattle.sv_code.specs.declared.known.Known.TheVariants as known
 use Rattle.sv_code.specs.declared.program.Component.{Component}
 use Rattle.sv_code.specs.declared.program.Program.{Program}
@@ -16,17 +14,16 @@ use Rattle.sv_instance.specs.Cells.{cell_at, declared_cell}
 use Rattle.sv_instance.specs.Subscriptions.{subscription_at}
 use Rattle.sv_instance.specs.declared.instance.Instance.{Instance}
 use Rattle.sv_instance.specs.declared.subscriptions.Subscription.{Subscription}
-use Rattle.sv_meaning.specs.Components.{component_at}
 use Rattle.sv_meaning.specs.Statements.{variable}
 use Rattle.sv_states.specs.Change.{with_subscription}
 use Rattle.sv_value.specs.Value.{Val, undefined}
 use Rattle.sv_view.specs.Cell.{Cell}
 use Rattle.sv_view.specs.Constants.{constant_at}
 use Rattle.sv_subscribed.proofs.Adding.{name_push-other, Part, part-stands, stands-part, part-kept, part-added}
-use Rattle.sv_subscribed.proofs.Known.{at_set, cell_or_not}
-use Rattle.sv_subscribed.proofs.Opening.{IsOpen, IsAbsent, IsDeclaring}
+use Rattle.sv_subscribed.proofs.Known.{at_set}
+use Rattle.sv_subscribed.proofs.Opening.{IsAbsent, IsDeclaring}
 use Rattle.sv_subscribed.proofs.Stages.{AreNamed, Settles}
-use Rattle.sv_subscribed.proofs.Standing.{Modules, IsNamed, IsUnnamed, Stand, nowhere}
+use Rattle.sv_subscribed.proofs.Standing.{Modules, Stand, nowhere}
 use Rattle.sv_subscribed.specs.Apart.{IsApart}
 use Rattle.sv_subscribed.specs.Holders.{IsAmong, held, Looks}
 

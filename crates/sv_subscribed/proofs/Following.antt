@@ -1,5 +1,5 @@
 -- How the `$` names of all live instances stand, and what values that go their ways leave of it.
-use Rattle.std.proofs.Common.{◌≡◌, ◌≢◌, ℕ, zero, suc, ◌<◌, ◌≤◌, Bool, true, false, List, [], ◌∷◌, length, Option, Some, None, option_map, is_some, refl, sym, ap, subst, ◌∙◌, arith, inl, inr, ◌⊎◌, ⊎_elim, nat_eq, if◌then◌else◌}
+use Rattle.std.proofs.Common.{◌≡◌, ◌≢◌, ℕ, zero, suc, ◌≤◌, Bool, true, false, List, [], ◌∷◌, length, Option, Some, None, option_map, is_some, refl, sym, ap, subst, ◌∙◌, arith, inl, inr, ◌⊎◌, ⊎_elim}
 use Rattle.std.specs.Prelude.{◌||◌}
 use Rattle.std.specs.List.{list_any}
 use Rattle.std.proofs.lemmas.Bool.{cases_eq, cases_Bool, eq-eqb, true≢false}
@@ -26,20 +26,19 @@ use Rattle.sv_states.proofs.Calm.{each_altered}
 use Rattle.sv_states.proofs.Making.{tally-sent}
 use Rattle.sv_states.proofs.Naming.{goal-none, goal-held, goal-set, sound-sent}
 use Rattle.sv_states.proofs.Sounding.{sound-inert, sound-computed, sound-store, sound-derived}
-use Rattle.sv_states.specs.Assignment.{Way, changes_in, cell_stored, handing, taken, told, store_set, end_set, written, placed_at, looked, moved_if, followed, all_followed, sent, way_of, way_into, handed_down, with_bound, bound_over, bound_up}
+use Rattle.sv_states.specs.Assignment.{Way, changes_in, cell_stored, taken, told, store_set, end_set, written, placed_at, looked, moved_if, followed, all_followed, sent, way_of, way_into, handed_down, with_bound, bound_over, bound_up}
 use Rattle.sv_states.specs.Moving.{Goal, goal_of, stores_after, leaves, comes, store_in, name_in, follower_in}
-use Rattle.sv_states.specs.Sound.{has_subscription, is_subscriber, IsSound}
+use Rattle.sv_states.specs.Sound.{is_subscriber, IsSound}
 use Rattle.sv_states.specs.States.{States, live, with_instance, cell_in, value_in}
 use Rattle.sv_states.specs.Waiting.{joins, queued, enqueued}
 use Rattle.sv_store.specs.Stores.{Store, Subscriber, same_subscriber, with_value, differs_at, subscribers_at, value_at, IsOnce}
 use Rattle.sv_value.specs.Value.{Val, undefined, null, boolean, number, text, list, object, function, store}
-use Rattle.sv_view.specs.Cell.{Cell}
 use Rattle.sv_subscribed.proofs.Known.{name-placed, follower-is}
 use Rattle.sv_subscribed.proofs.Once.{once-store_set, once-sent, once-made}
-use Rattle.sv_subscribed.proofs.Standing.{Modules, Stand, nowhere, stand-more, stand-valued, stand-assigned, stand-told, stand-followed, stand-unfollowed}
+use Rattle.sv_subscribed.proofs.Standing.{Modules, Stand, stand-more, stand-valued, stand-assigned, stand-told, stand-followed, stand-unfollowed}
 use Rattle.sv_subscribed.proofs.Ways.{if_either, Holds, went-all, went-down}
-use Rattle.sv_subscribed.specs.Apart.{HoldApart, IsApart, AreApart}
-use Rattle.sv_subscribed.specs.Holders.{IsAmong, Looks, store_held, store_of}
+use Rattle.sv_subscribed.specs.Apart.{AreApart}
+use Rattle.sv_subscribed.specs.Holders.{IsAmong, Looks}
 
 -- ---- who is subscribed is a `$` name
 

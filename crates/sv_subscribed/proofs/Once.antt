@@ -1,6 +1,6 @@
 -- Each cell is subscribed once at most, whatever is done.
-use Rattle.std.proofs.Common.{◌≡◌, ℕ, zero, suc, ◌+◌, ◌≤◌, Bool, true, false, List, [], ◌∷◌, ◌++◌, length, Option, Some, None, is_some, refl, sym, ap, subst, ◌∙◌, arith, if◌then◌else◌}
-use Rattle.std.specs.Prelude.{not, ◌&&◌, sum_by, count_by}
+use Rattle.std.proofs.Common.{◌≡◌, ℕ, Bool, true, false, List, [], ◌∷◌, length, Option, Some, None, is_some, refl, sym, ap, subst, ◌∙◌, arith, if◌then◌else◌}
+use Rattle.std.specs.Prelude.{not, count_by}
 use Rattle.std.proofs.lemmas.Bool.{and_parts, true≢false}
 use Rattle.std.proofs.lemmas.List.Sums.{sum_by_push}
 use Rattle.sv_derived.specs.Derived.{marked}
@@ -8,8 +8,8 @@ use Rattle.sv_instance.specs.declared.subscriptions.Subscription.{Subscription}
 use Rattle.sv_states.proofs.Making.{length-changed, tally-followed, tally-written}
 use Rattle.sv_states.proofs.Naming.{free-nowhere, left-nowhere, nameless-nowhere, goal-made, sound-followed}
 use Rattle.sv_states.proofs.Sounding.{sound-written}
-use Rattle.sv_states.specs.Assignment.{Way, changes_in, cell_stored, handing, taken, told, store_set, end_set, written, placed_at, looked, moved, moved_if, followed, all_followed, sent}
-use Rattle.sv_states.specs.Change.{declared, given, with_subscription, named_over, may_follow, subscribed_to}
+use Rattle.sv_states.specs.Assignment.{Way, changes_in, cell_stored, handing, taken, told, store_set, end_set, written, placed_at, moved, moved_if, followed, all_followed, sent}
+use Rattle.sv_states.specs.Change.{declared, with_subscription, named_over, may_follow, subscribed_to}
 use Rattle.sv_states.specs.Moving.{Goal, goal_of, stores_after, leaves, comes, store_in, name_in, follower_in, IsThere}
 use Rattle.sv_states.specs.Sound.{IsSound}
 use Rattle.sv_states.specs.States.{States, live, with_instance, has_cell}

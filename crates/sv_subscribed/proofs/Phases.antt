@@ -1,20 +1,18 @@
 -- How the `$` names of all live instances stand, at every moment of a flush.
-use Rattle.std.proofs.Common.{◌≡◌, ◌≢◌, ℕ, ◌<◌, ◌≤◌, Bool, true, false, List, [], ◌∷◌, ◌++◌, length, map, Option, Some, None, option_map, is_some, refl, sym, ap, subst, ◌∙◌, arith, inl, inr, ◌⊎◌, ⊎_elim, nat_eq, slice_set, if◌then◌else◌}
+use Rattle.std.proofs.Common.{◌≡◌, ◌≢◌, ℕ, ◌<◌, List, [], ◌∷◌, ◌++◌, length, Option, Some, None, option_map, refl, sym, ap, subst, ◌∙◌, arith, inl, inr, ◌⊎◌, ⊎_elim, slice_set}
 use Rattle.std.specs.Prelude.{replicate, slice_index_or}
 use Rattle.std.proofs.lemmas.Bool.{cases_eq, cases_lt}
 use Rattle.std.proofs.lemmas.List.{length-set, length-map, length_push, get_or-set_same, get_or-set_other, set_past, get_or_append_left, get_or_past, get_or_push, length-replicate, get_or-replicate}
 use Rattle.std.proofs.lemmas.Option.{none-some, same_Some}
-use Rattle.sv_code.specs.Names.{Each}
 use Rattle.sv_code.specs.declared.known.Known.TheVariants as known
 use Rattle.sv_code.specs.declared.program.Component.{Component}
 use Rattle.sv_code.specs.declared.program.Program.{Program}
-use Rattle.sv_code.specs.declared.program.StoreCell.{StoreCell}
 use Rattle.sv_flush.proofs.Lasting.{Phase, Loading, Idle, Fresh, Busy, Snapped, Lasting, TakesAt, while_running}
 use Rattle.sv_flush.proofs.Recording.{Only}
 use Rattle.sv_flush.proofs.Tracking.{picture_at}
 use Rattle.sv_flush.specs.Creation.{cell_count}
 use Rattle.sv_flush.specs.Records.{nobody}
-use Rattle.sv_frame.proofs.Altering.{Plain, pictures, pictures_keep, pictures_setup, pictures_stay, pictures-altered, pictures-bound, pictures-handed, pictures-viewed}
+use Rattle.sv_frame.proofs.Altering.{Plain, pictures, pictures_keep, pictures_setup, pictures_stay, pictures-altered, pictures-bound, pictures-handed}
 use Rattle.sv_frame.proofs.Outcomes.{ending, Left, Stays, both_stay, ends_stay}
 use Rattle.sv_frame.proofs.Running.{settle_leaves, top_leaves}
 use Rattle.sv_frame.proofs.Stepping.{Setups, Steps, sets_by, steps_stay}
@@ -26,10 +24,8 @@ use Rattle.sv_instance.specs.Subscriptions.{moved_to}
 use Rattle.sv_instance.specs.declared.instance.Instance.{Instance}
 use Rattle.sv_meaning.specs.Components.{component_at, component_for, component_of}
 use Rattle.sv_meaning.specs.Outcome.{Ending, Ends, Fails}
-use Rattle.sv_meaning.specs.Runs.{run_top, run_component, settle}
+use Rattle.sv_meaning.specs.Runs.{run_top}
 use Rattle.sv_numbered.specs.Numbered.{at, altered, altered_over}
-use Rattle.sv_shapes.specs.declared.shown.Shown.{Shown}
-use Rattle.sv_states.proofs.Altering.{at_within}
 use Rattle.sv_states.proofs.Keeping.{new-born}
 use Rattle.sv_states.proofs.Making.{tally-viewed, tally-removed}
 use Rattle.sv_states.proofs.Sounding.{sound-viewed, sound-added, sound-snapped, sound-removed}
@@ -42,11 +38,11 @@ use Rattle.sv_states.specs.States.{States, live, with_instance, has_cell}
 use Rattle.sv_states.specs.Waiting.{joins, queued, enqueued, snapped}
 use Rattle.sv_states.specs.Waiting as waiting
 use Rattle.sv_value.specs.Value.{Val, undefined}
-use Rattle.sv_view.specs.Constants.{constant_at, no_constants}
+use Rattle.sv_view.specs.Constants.{constant_at}
 use Rattle.sv_view.specs.Level.{View}
 use Rattle.sv_world.specs.declared.world.World.{World}
 use Rattle.sv_subscribed.proofs.Adding.{part-stands, stands-part, part-kept}
-use Rattle.sv_subscribed.proofs.Following.{altered_at, Rides, none, Is, All, Goes, goes_stay, goes-handed, goes-bound}
+use Rattle.sv_subscribed.proofs.Following.{altered_at, Rides, none, Is, Goes, goes_stay, goes-handed, goes-bound}
 use Rattle.sv_subscribed.proofs.Known.{at_set}
 use Rattle.sv_subscribed.proofs.Opening.{IsBare}
 use Rattle.sv_subscribed.proofs.Script.{Script, component_left}
@@ -54,7 +50,7 @@ use Rattle.sv_subscribed.proofs.Stages.{Stage}
 use Rattle.sv_subscribed.proofs.Standing.{Modules}
 use Rattle.sv_subscribed.proofs.Ways.{if_either}
 use Rattle.sv_subscribed.specs.Apart.{IsApart, AreApart}
-use Rattle.sv_subscribed.specs.Holders.{IsAmong, store_held}
+use Rattle.sv_subscribed.specs.Holders.{store_held}
 
 -- ---- how many instances there are
 
@@ -131,23 +127,29 @@ module _ (p : Program) where
     setup = λ i u e h. (λ q. let r = h.0 q in record { unseen = r.unseen; names = r.names; cells = r.cells; constants = λ k. ap (λ l. constant_at l k) e ∙ r.constants k; sized = λ c is. ((r.sized c is).0, ap length e ∙ (r.sized c is).1) }, h.1);
     waits = λ i h. (λ q. let r = h.0 q in record { unseen = r.unseen; names = r.names; cells = r.cells; constants = r.constants; sized = r.sized }, h.1);
     moved = λ i c st h. (λ q. let r = h.0 q in record { unseen = r.unseen; names = ap (λ l. moved_to l c st) r.names; cells = r.cells; constants = r.constants; sized = r.sized }, h.1);
-    assigned = λ i c v h. (λ q. let r = h.0 q in record {
-      unseen = r.unseen;
-      names = r.names;
-      cells = λ k. ⊎_elim (λ same. same ∙ r.cells k) (λ set. set.1 ∙ ap (λ o. cells.assigned_cell o v) (r.cells c)) (at_set i.cells.now c k (cells.assigned_cell (cell_at i.cells.now c) v));
-      constants = r.constants;
-      sized = λ k is. (length-set i.cells.now c _ ∙ (r.sized k is).0, (r.sized k is).1);
-    }, h.1);
+    assigned = λ i c v h. (
+      λ q. let r = h.0 q in record {
+        unseen = r.unseen;
+        names = r.names;
+        cells = λ k. ⊎_elim (λ same. same ∙ r.cells k) (λ set. set.1 ∙ ap (λ o. cells.assigned_cell o v) (r.cells c)) (at_set i.cells.now c k (cells.assigned_cell (cell_at i.cells.now c) v));
+        constants = r.constants;
+        sized = λ k is. (length-set i.cells.now c _ ∙ (r.sized k is).0, (r.sized k is).1);
+      },
+      h.1,
+    );
   }
 
   raw-viewed : (Q : Type 0) (i : Instance) (c : ℕ) (view : View) → (Q → IsRaw p i) × IsOne p i → (Q → IsRaw p (with_view c view i)) × IsOne p (with_view c view i)
-  raw-viewed Q i c view h = (λ q. let r = h.0 q in record {
-    unseen = r.unseen;
-    names = r.names;
-    cells = λ k. ⊎_elim (λ same. same ∙ r.cells k) (λ set. set.1 ∙ ap touched_cell (r.cells c)) (at_set i.cells.now c k (touched_cell (cell_at i.cells.now c)));
-    constants = r.constants;
-    sized = λ k is. (length-set i.cells.now c _ ∙ (r.sized k is).0, (r.sized k is).1);
-  }, h.1)
+  raw-viewed Q i c view h = (
+    λ q. let r = h.0 q in record {
+      unseen = r.unseen;
+      names = r.names;
+      cells = λ k. ⊎_elim (λ same. same ∙ r.cells k) (λ set. set.1 ∙ ap touched_cell (r.cells c)) (at_set i.cells.now c k (touched_cell (cell_at i.cells.now c)));
+      constants = r.constants;
+      sized = λ k is. (length-set i.cells.now c _ ∙ (r.sized k is).0, (r.sized k is).1);
+    },
+    h.1,
+  )
 
   raw-bare : (many : ℕ) (ms : Modules) (c : Component) (its : IsApart c) (i : Instance) → component_at p i.place.component ≡ Some c → IsRaw p i → IsBare p many ms c its i
   raw-bare many ms c its i is r = record {

@@ -1,6 +1,6 @@
 -- The script of a new instance: behind it all `$` names of it stand well.
-use Rattle.std.proofs.Common.{◌≡◌, ◌≢◌, ℕ, zero, suc, ◌<◌, Bool, true, false, List, [], ◌∷◌, ◌++◌, map, length, Option, Some, None, option_map, is_some, refl, sym, ap, subst, ◌∙◌, inl, inr, ◌⊎◌, ⊎_elim, nat_eq, slice_set, if◌then◌else◌}
-use Rattle.std.proofs.lemmas.Bool.{cases_eq, ne_eqb, true≢false}
+use Rattle.std.proofs.Common.{◌≡◌, ◌≢◌, ℕ, zero, suc, true, List, [], ◌∷◌, ◌++◌, map, length, Option, Some, None, option_map, is_some, refl, sym, ap, subst, ◌∙◌, inl, inr, ⊎_elim, slice_set}
+use Rattle.std.proofs.lemmas.Bool.{cases_eq, ne_eqb}
 use Rattle.std.proofs.lemmas.List.{length-set, append-nil}
 use Rattle.std.proofs.lemmas.Option.{none-some, same_Some}
 use Rattle.sv_base.specs.declared.span.Span.{Span}
@@ -15,34 +15,31 @@ use Rattle.sv_code.specs.declared.known.Known.TheVariants as known
 use Rattle.sv_code.specs.declared.program.Component.{Component}
 use Rattle.sv_code.specs.declared.program.Program.{Program}
 use Rattle.sv_code.specs.declared.program.StoreCell.{StoreCell}
-use Rattle.sv_frame.proofs.Outcomes.{Fact, ending, Stays, Keeps, Leaves, Held, Left, if_left, then_left, counted_keeps}
+use Rattle.sv_frame.proofs.Outcomes.{ending, Stays, Held, Left, if_left}
 use Rattle.sv_frame.proofs.Running.{calls_keep, prop_value_keeps}
 use Rattle.sv_frame.proofs.Statements.{value_or_keeps, valued_keeps, run_keeps}
 use Rattle.sv_instance.specs.Cells.{cell_at}
 use Rattle.sv_instance.specs.Subscriptions.{subscription_at, moved_to}
 use Rattle.sv_instance.specs.declared.instance.Instance.{Instance}
-use Rattle.sv_instance.specs.declared.setup.Setup.{Setup}
-use Rattle.sv_instance.specs.declared.subscriptions.Subscription.{Subscription}
-use Rattle.sv_meaning.specs.Components.{component_at, component_of}
 use Rattle.sv_meaning.specs.Env.{Env}
-use Rattle.sv_meaning.specs.Outcome.{Ending, Ends, Fails, Outcome, Done, Failed, Meaning, Deed, Flow, Next, Broken, Continued, Returned, and_then, then_do, kept, doing, left, given, counted, counted_in, with_steps}
-use Rattle.sv_meaning.specs.Runs.{world_ground, calls, each_in_turn, function_set, functions_set, given_for, declarations, prop_value, top_declared, top_or, top, script, cell_opened, cells_opened, view_opened, name_opened, name_subscribed, opened, run_component, run_top}
-use Rattle.sv_meaning.specs.Statements.{value_or, valued, initialized, variable, may_show, subscribe, subscribe_if, declare, constant_set, go_on, in_order}
-use Rattle.sv_ops.specs.declared.faults.FaultKind.TheVariants.{NotAStore, UseBeforeInit, Steps}
-use Rattle.sv_states.specs.Change.{declared, with_subscription, subscribed_to}
+use Rattle.sv_meaning.specs.Outcome.{Ending, Ends, Fails, Outcome, Done, Failed, Meaning, Flow, Next, Broken, Continued, Returned, and_then, then_do, kept, left, given, counted, counted_in, with_steps}
+use Rattle.sv_meaning.specs.Runs.{world_ground, calls, each_in_turn, function_set, functions_set, given_for, declarations, prop_value, top_declared, top_or, top, script, cell_opened, cells_opened, view_opened, name_opened, name_subscribed, opened, run_component}
+use Rattle.sv_meaning.specs.Statements.{value_or, valued, initialized, variable, may_show, subscribe, declare, constant_set, go_on, in_order}
+use Rattle.sv_ops.specs.declared.faults.FaultKind.TheVariants.{NotAStore, UseBeforeInit}
+use Rattle.sv_states.specs.Change.{declared, subscribed_to}
 use Rattle.sv_states.specs.Moving.{goal_of}
 use Rattle.sv_states.specs.States.{States, live, with_instance, value_in}
 use Rattle.sv_value.specs.Value.{Val, undefined, function, none}
 use Rattle.sv_view.specs.Cell.{Cell}
-use Rattle.sv_view.specs.Constants.{module_constant_at, constant_at}
+use Rattle.sv_view.specs.Constants.{module_constant_at}
 use Rattle.sv_world.specs.declared.world.World.{World}
 use Rattle.sv_subscribed.proofs.Declaring.{IsWell, well-named, named-well, IsHeld, well-cell, held-cell, well-set, held-set, well-settles, held-had, held-new, held-fewer}
 use Rattle.sv_subscribed.proofs.Following.{Rides, Goes, goes_stay, goal-looks}
 use Rattle.sv_subscribed.proofs.Known.{name-placed}
-use Rattle.sv_subscribed.proofs.Opening.{IsOpen, IsBare, IsOpening, bare-declared, bare-set, bare-opening, opening-settles, opening-had, opening-none, opening-new, IsAbsent, IsDeclaring, opened-names, opened-declares}
-use Rattle.sv_subscribed.proofs.Stages.{AreNamed, Settles, Stage, stage-mono, stage-declared, stage-constant, stage-subscribed}
+use Rattle.sv_subscribed.proofs.Opening.{IsBare, IsOpening, bare-declared, bare-set, bare-opening, opening-settles, opening-had, opening-none, opening-new, IsAbsent, IsDeclaring, opened-names, opened-declares}
+use Rattle.sv_subscribed.proofs.Stages.{Stage, stage-mono, stage-declared, stage-constant, stage-subscribed}
 use Rattle.sv_subscribed.proofs.Standing.{Modules, IsUnnamed}
-use Rattle.sv_subscribed.specs.Apart.{IsApart, AreApart, IsOwn, IsTold, AreOnce, declared_by, declared_at_top}
+use Rattle.sv_subscribed.specs.Apart.{IsApart, AreApart, IsTold, AreOnce, declared_by, declared_at_top}
 use Rattle.sv_subscribed.specs.Holders.{IsAmong, store_held, held, Looks}
 
 module _ (p : Program) (many : ℕ) (ms : Modules) (apart : AreApart p) (n : ℕ) (real : n ≢ 0) (c : Component) (its : IsApart c) where
@@ -351,7 +348,7 @@ module _ (p : Program) (many : ℕ) (ms : Modules) (apart : AreApart p) (n : ℕ
       record {
         sound = h.0.sound;
         enough = h.0.enough;
-      once = h.0.once;
+        once = h.0.once;
         all = λ m i there. let k = h.0.beside m i there in (
           λ old. ⊎_elim (λ same. opened-names p many ms c its i (k.1 same)) (λ other. k.0 other) (cases_eq m n),
           λ same. opened-declares p many ms c its (declared_at_top c.script) i (k.1 same),

@@ -1,7 +1,7 @@
 -- An instance whose script runs, beside the others: what is so of it from step to step.
-use Rattle.std.proofs.Common.{◌≡◌, ◌≢◌, ℕ, ◌<◌, ◌≤◌, Bool, true, false, List, [], ◌∷◌, ◌++◌, length, Option, Some, None, is_some, refl, sym, ap, subst, ◌∙◌, arith, ⊎_elim, nat_eq, slice_set, if◌then◌else◌}
+use Rattle.std.proofs.Common.{◌≡◌, ◌≢◌, ℕ, ◌≤◌, Bool, true, false, List, length, Option, Some, None, is_some, refl, sym, ap, subst, ◌∙◌, arith, slice_set, if◌then◌else◌}
 use Rattle.std.specs.Prelude.{not, ◌&&◌}
-use Rattle.std.proofs.lemmas.Bool.{cases_eq, cases_Bool, eq-eqb, ne_eqb, eqb-true, true≢false}
+use Rattle.std.proofs.lemmas.Bool.{true≢false}
 use Rattle.std.proofs.lemmas.Option.{none-some, same_Some}
 use Rattle.sv_code.specs.declared.program.Component.{Component}
 use Rattle.sv_code.specs.declared.program.Program.{Program}
@@ -22,8 +22,6 @@ use Rattle.sv_states.specs.States.{States, live, with_instance, has_cell}
 use Rattle.sv_states.specs.Waiting.{joins, queued, enqueued}
 use Rattle.sv_store.specs.Stores.{Subscriber, IsOnce}
 use Rattle.sv_value.specs.Value.{Val, undefined}
-use Rattle.sv_world.specs.Setup.{set_up}
-use Rattle.sv_world.specs.declared.world.World.{World}
 use Rattle.sv_subscribed.proofs.Following.{altered_at}
 use Rattle.sv_subscribed.proofs.Once.{once-subscribed}
 use Rattle.sv_subscribed.proofs.Standing.{Modules, Stand, nowhere}

@@ -1,10 +1,10 @@
 -- Behind each turn all `$` names are subscribed where they should be.
-use Rattle.std.proofs.Common.{◌≡◌, ◌≢◌, ℕ, zero, suc, ◌<◌, Bool, true, false, List, [], ◌∷◌, length, map, Option, Some, None, option_map, refl, sym, ap, subst, ◌∙◌, arith, inl, inr, ◌⊎◌, ⊎_elim, if◌then◌else◌, get_or}
-use Rattle.std.specs.List.{All, list_any}
-use Rattle.std.proofs.lemmas.Bool.{cases_Bool, eqb-true, eq-eqb, true≢false}
+use Rattle.std.proofs.Common.{◌≡◌, ℕ, zero, suc, ◌<◌, Bool, true, false, List, [], ◌∷◌, length, Option, Some, None, option_map, refl, sym, ap, subst, ◌∙◌, arith, ◌⊎◌, ⊎_elim}
+use Rattle.std.specs.List.{All}
+use Rattle.std.proofs.lemmas.Bool.{eqb-true, eq-eqb, true≢false}
 use Rattle.std.proofs.lemmas.List.{length-map}
 use Rattle.std.proofs.lemmas.List.Elements.{All-nil, All-cons}
-use Rattle.std.proofs.lemmas.Option.{none-some, same_Some}
+use Rattle.std.proofs.lemmas.Option.{none-some}
 use Rattle.sv_code.specs.declared.program.Component.{Component}
 use Rattle.sv_code.specs.declared.program.Program.{Program}
 use Rattle.sv_code.specs.declared.program.StoreCell.{StoreCell}
@@ -12,7 +12,6 @@ use Rattle.sv_document.specs.Element.{Element}
 use Rattle.sv_document.specs.declared.tree.Node.{Node}
 use Rattle.sv_events.specs.declared.event.Event.{Event}
 use Rattle.sv_flush.proofs.Bringing.{Afterwards, after_then}
-use Rattle.sv_flush.proofs.Lasting.{Idle}
 use Rattle.sv_flush.proofs.Playing.{rooted, rooted_brings, flushed_brings}
 use Rattle.sv_flush.proofs.Tracking.{Tracks, goes_sets, tracks_go, tracks_stay, picture_at}
 use Rattle.sv_flush.specs.Creation.{mounted}
@@ -40,17 +39,16 @@ use Rattle.sv_numbered.specs.Numbered.{at}
 use Rattle.sv_page.proofs.Delivering.{walked_leaves}
 use Rattle.sv_page.specs.Run.{followed, turns, run}
 use Rattle.sv_page.specs.Turns.{nodes_of, settled, first_turn, next_turn}
-use Rattle.sv_states.specs.Moving.{store_in, name_in}
-use Rattle.sv_states.specs.Sound.{IsSound, has_subscription, is_subscriber}
+use Rattle.sv_states.specs.Moving.{store_in}
+use Rattle.sv_states.specs.Sound.{has_subscription, is_subscriber}
 use Rattle.sv_states.specs.States.{States, live}
 use Rattle.sv_value.specs.Value.{undefined}
 use Rattle.sv_world.specs.declared.world.World.{World}
 use Rattle.sv_subscribed.proofs.Known.{of_name}
 use Rattle.sv_subscribed.proofs.Once.{once-nobody}
 use Rattle.sv_subscribed.proofs.Phases.{unit_of, file_of, plain_file, At, at_stay, standing_last}
-use Rattle.sv_subscribed.proofs.Standing.{Modules, Stand, IsNamed, IsUnnamed, nowhere}
+use Rattle.sv_subscribed.proofs.Standing.{Modules, Stand, IsNamed, IsUnnamed}
 use Rattle.sv_subscribed.specs.Apart.{AreApart}
-use Rattle.sv_subscribed.specs.Holders.{IsAmong, store_held, held}
 use Rattle.sv_subscribed.specs.Subscribed.{HasName, held_now, AreSubscribed, first_stores, LeavesSubscribed}
 
 module _ (p : Program) (apart : AreApart p) where

@@ -1,6 +1,6 @@
 -- A value that goes its way stands in each cell of it, even where a cell stands on the way twice.
-use Rattle.std.proofs.Common.{◌≡◌, ◌≢◌, ℕ, zero, suc, ◌+◌, ◌<◌, Bool, true, false, List, [], ◌∷◌, length, Option, Some, None, option_map, is_some, refl, sym, ap, subst, ◌∙◌, inl, inr, ◌⊎◌, ⊎_elim, nat_eq, if◌then◌else◌}
-use Rattle.std.proofs.lemmas.Bool.{cases_eq, cases_Bool, true≢false}
+use Rattle.std.proofs.Common.{◌≡◌, ℕ, zero, suc, ◌+◌, ◌<◌, Bool, true, false, List, [], ◌∷◌, length, Option, Some, None, option_map, is_some, refl, sym, ap, subst, ◌∙◌, inl, inr, ◌⊎◌, ⊎_elim, if◌then◌else◌}
+use Rattle.std.proofs.lemmas.Bool.{true≢false}
 use Rattle.std.proofs.lemmas.Option.{none-some, same_Some}
 use Rattle.std.proofs.lemmas.List.{get_or-set_same}
 use Rattle.sv_code.proofs.Each.{each_mono}
@@ -15,7 +15,7 @@ use Rattle.sv_instance.specs.declared.subscriptions.Subscription.{Subscription}
 use Rattle.sv_numbered.specs.Numbered.{at, altered}
 use Rattle.sv_states.proofs.Altering.{at_within, at-altered_same}
 use Rattle.sv_states.proofs.Calm.{each_altered}
-use Rattle.sv_states.specs.Assignment.{Way, onward, up, into, way_step, way, way_of, way_into, changes_in, cell_stored, handing, taken, told, store_set, end_set, written}
+use Rattle.sv_states.specs.Assignment.{Way, onward, up, into, way_step, way, way_of, way_into, changes_in, cell_stored, handing, taken, told, end_set, written}
 use Rattle.sv_states.specs.States.{States, live, depth_of, cell_in, value_in}
 use Rattle.sv_states.specs.Waiting.{joins, queued, enqueued}
 use Rattle.sv_store.specs.Stores.{Subscriber, with_value, differs_at, subscribers_at}

@@ -1,11 +1,10 @@
 -- Who is subscribed to which store.
-use Rattle.std.specs.Prelude.{◌≡◌, ◌<◌, ℕ, Bool, true, List, [], length, Option, Some, None}
+use Rattle.std.specs.Prelude.{◌≡◌, ◌<◌, ℕ, Bool, true, List, length, Option, Some}
 use Rattle.sv_code.specs.declared.program.Component.{Component}
 use Rattle.sv_code.specs.declared.program.Program.{Program}
 use Rattle.sv_code.specs.declared.program.StoreCell.{StoreCell}
 use Rattle.sv_flush.specs.Outcome.{Outcome, Done, Halted}
 use Rattle.sv_flush.specs.Page.{begun, blank}
-use Rattle.sv_flush.specs.declared.page.Page.{Page}
 use Rattle.sv_frame.specs.Snapshots.{world_of}
 use Rattle.sv_instance.specs.declared.instance.Instance.{Instance}
 use Rattle.sv_meaning.specs.Components.{component_at}
