@@ -24,7 +24,7 @@ use Rattle.sv_subscribed.proofs.Known.{at_set}
 use Rattle.sv_subscribed.proofs.Opening.{IsAbsent, IsDeclaring}
 use Rattle.sv_subscribed.proofs.Stages.{AreNamed, Settles}
 use Rattle.sv_subscribed.proofs.Standing.{Modules, Stand, nowhere}
-use Rattle.sv_subscribed.specs.Apart.{IsApart}
+use Rattle.sv_subscribed.specs.Apart.{IsApart, IsOwn}
 use Rattle.sv_subscribed.specs.Holders.{IsAmong, held, Looks}
 
 abbrev value_of : Option Cell → Option Val
@@ -106,7 +106,7 @@ module _ (p : Program) (many : ℕ) (ms : Modules) (c : Component) (apart : IsAp
                 part-kept now i.setup.constants (λ x is r. absurd r)
                     (λ x is. ⊎_elim
                     (λ same. inl (apart.names.cells x y is among same))
-                    (λ other. inr (λ d e. other-cell x (λ its. other (ap (λ (z : StoreCell). z.cell) (apart.names.holders x y is among (its ∙ sym holds)))) d e, λ d e. refl))
+                    (λ other. inr (λ d e. other-cell x (λ its. other (ap (λ (z : StoreCell). z.cell) (apart.names.holders x y is among (subst IsOwn (sym its) tt) (its ∙ sym holds)))) d e, λ d e. refl))
                     (cases_eq x.cell y.cell))
                     h.part,
                 (
@@ -151,7 +151,7 @@ module _ (p : Program) (many : ℕ) (ms : Modules) (c : Component) (apart : IsAp
           part-kept i.cells.now sets (λ x is r. absurd r)
               (λ x is. ⊎_elim
               (λ same. inl (apart.names.cells x y is among same))
-              (λ other. inr (λ d e. refl, λ d e. other-set x (λ its. other (ap (λ (z : StoreCell). z.cell) (apart.names.holders x y is among (its ∙ sym holds)))) d e))
+              (λ other. inr (λ d e. refl, λ d e. other-set x (λ its. other (ap (λ (z : StoreCell). z.cell) (apart.names.holders x y is among (subst IsOwn (sym its) tt) (its ∙ sym holds)))) d e))
               (cases_eq x.cell y.cell))
               h.part,
           (

@@ -13,7 +13,7 @@ use Rattle.sv_value.specs.Change.{differs}
 use Rattle.sv_value.specs.Value.{Val}
 use Rattle.sv_view.specs.Cell.{Cell}
 use Rattle.sv_subscribed.proofs.Known.{cell_or_not, at_set, held-other, IsOf, placed-same, placed-other, name-placed, of_placed, of_name, of_follower, follows, name-plain, name-source}
-use Rattle.sv_subscribed.specs.Apart.{HoldApart}
+use Rattle.sv_subscribed.specs.Apart.{HoldApart, IsOwn}
 use Rattle.sv_subscribed.specs.Holders.{IsAmong, store_held, held, Looks}
 
 abbrev pub Modules : Type 0
@@ -151,7 +151,7 @@ module _ {many : ℕ} {ms : Modules} {stores : List StoreCell} (apart : HoldApar
             (λ same. inl (subst (Looks many (held ms now constants x.holder)) (sym (placed-same d st k.name (cell ∙ same))) (now_looks x among (apart.cells x its.0 among its.1.0 (same ∙ sym its.1.1.0)))))
             (λ other. ⊎_elim
             (λ l. inl (subst (Looks many (held ms now constants x.holder)) (sym (placed-other d st k.name (λ e. other (sym cell ∙ e)))) l))
-            (λ off. ⊎_elim (λ still. inr (off.0, (off.1.0, still))) (λ its_own. absurd (other (ap (λ (y : StoreCell). y.cell) (apart.holders x its.0 among its.1.0 (off.1.0 ∙ (ap known.Cell (sym its_own) ∙ sym its.1.1.1))) ∙ its.1.1.0))) off.1.1)
+            (λ off. ⊎_elim (λ still. inr (off.0, (off.1.0, still))) (λ its_own. absurd (other (ap (λ (y : StoreCell). y.cell) (apart.holders x its.0 among its.1.0 (subst IsOwn (sym off.1.0) tt) (off.1.0 ∙ (ap known.Cell (sym its_own) ∙ sym its.1.1.1))) ∙ its.1.1.0))) off.1.1)
             k.looks)
             (cases_eq x.cell d);
         declared = k.declared;

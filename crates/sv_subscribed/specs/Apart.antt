@@ -40,10 +40,10 @@ pub record IsTold (stores : List StoreCell) (d : CodeDecl) : Type 0 where
   pub names : (cell : ℕ) → d.store ≡ Some cell → (x : StoreCell) × (IsAmong x stores × ((x.cell ≡ cell) × (d.target ≡ x.holder)))
   pub own : (cell : ℕ) → d.store ≡ Some cell → IsOwn d.target
 
--- no two `$` names have one cell or one holder, and no `$` name holds another's store
+-- no two `$` names have one cell, or one variable or constant that holds their stores, and no `$` name holds another's
 pub record HoldApart (stores : List StoreCell) : Type 0 where
   pub cells : (x y : StoreCell) → IsAmong x stores → IsAmong y stores → x.cell ≡ y.cell → x ≡ y
-  pub holders : (x y : StoreCell) → IsAmong x stores → IsAmong y stores → x.holder ≡ y.holder → x ≡ y
+  pub holders : (x y : StoreCell) → IsAmong x stores → IsAmong y stores → IsOwn x.holder → x.holder ≡ y.holder → x ≡ y
   pub plain : (x y : StoreCell) → IsAmong x stores → IsAmong y stores → x.holder ≢ known.Cell y.cell
 
 -- so it is with those of a component; none is held by the cell for the owner's view, each by one of its cells or constants or an import, and what is declared
