@@ -155,9 +155,6 @@ unchanged-has s v q declared e = value-cell (live s q.inst) q.cell ∙ unchanged
 
 pub handed-has : (s : States) (p : Subscriber) (v : Val) → IsPlain s p.inst p.cell → IsDeclared s p.inst p.cell → Has (handed_down s p v) v p
 handed-has s p v plain declared = by (changes_in (live s p.inst) p.cell v) refl (went-down s p v) where
-  w : Bool → Way
-  w b = if b then onward p (record { cells = []; store = None }) else record { cells = []; store = None }
-
   by : (b : Bool) → changes_in (live s p.inst) p.cell v ≡ b → let x : Way = if b then onward p (record { cells = []; store = None }) else record { cells = []; store = None } in
       Each (λ q. Has (written x.cells x.store v s) v q) x.cells → Has (sent x v s) v p
   by true e h = sent-has (onward p (record { cells = []; store = None })) v s p (ap is_some plain) h.0
