@@ -1,14 +1,15 @@
 -- A node is taken away, and its change tells it.
-use Rattle.std.proofs.Common.{◌≡◌, ◌≢◌, ◌≤◌, ℕ, List, ◌∷◌, ◌++◌, Bool, true, false, Option, Some, None, refl, ap, sym, ◌∙◌, arith, subst, append_assoc}
-use Rattle.std.specs.Prelude.{is_some, if◌then◌else◌, ◌↔◌, IsNone}
+use Rattle.std.proofs.Common.{◌≡◌, ◌≢◌, ◌≤◌, ◌⊎◌, inl, inr, length, length-append, ℕ, List, [], ◌∷◌, ◌++◌, Bool, true, false, Option, Some, None, refl, ap, sym, ◌∙◌, arith, subst, append_assoc}
+use Rattle.std.specs.Prelude.{is_some, if◌then◌else◌, ◌↔◌, IsNone, IsSome}
 use Rattle.std.proofs.lemmas.Bool.{eq-eqb}
 use Rattle.sv_tokens.specs.Counting.{times, one, Has}
-use Rattle.sv_tokens.specs.Token.{Name, Token, Open, Text, Anchor, Close, begins, anchors, lacks_number}
+use Rattle.sv_tokens.specs.Token.{Name, Token, Open, Text, Anchor, Close, Page, begins, anchors, lacks_number, IsSpan, one_text, one_anchor, whole}
 use Rattle.sv_tokens.specs.Edit.{Removed}
-use Rattle.sv_tokens.specs.Seen.{seen, view_of, starts}
+use Rattle.sv_tokens.specs.Seen.{View, seen, view_of, starts}
 use Rattle.sv_tokens.specs.Replay.{replay_if}
+use Rattle.sv_tokens.specs.declared.change.Change.{Change}
 use Rattle.sv_tokens.specs.declared.change.Change.TheVariants.{Remove}
-use Rattle.sv_tokens.proofs.Counting.{times-append, has-right, has-here}
+use Rattle.sv_tokens.proofs.Counting.{times-append, has-left, has-right, has-here}
 use Rattle.sv_tokens.proofs.Seen.{seen-append, seen-three, same_view, IsNumbered-fewer}
 use Rattle.sv_tokens.proofs.Replay.{IsNode, replay-remove}
 use Rattle.sv_nodes.specs.Nodes.{Kind, element, text, anchor, Cell, Nodes, name_of, opening, start, finish, walk, tokens_of, is_anchor}
@@ -105,3 +106,28 @@ module _ (at at' : Nodes) (next number p : ℕ) (dom : IsDom at next number) (so
           replay-remove (page_of at next number) (page_of at' next number) a.pre own a.post c.serial (dom.numbered.once c.serial) (closed at next number dom c.serial)
           (serial-later at next p c dom.sound here other) node_c was is refl
           ∙ ap (λ b. replay_if (if b then None else Some (Remove c.serial)) (view_of (page_of at next number))) (sym shown)
+
+-- what is seen of a node that is no anchor
+span-seen : (key : ℕ) (own : List Token) → IsSpan key own → (1 ≤ length (seen own)) ⊎ Has (anchors key) own
+span-seen key own (one_text k s p n x) = inl (omega arith)
+span-seen key own (one_anchor k p) = inr (has-here (anchors key) (Anchor key p) [] (eq-eqb key key refl))
+span-seen key own (whole k s p n e inner name) = inl (omega arith)
+
+some-none : (told : Option Change) → IsSome told → IsNone told → ⊥
+some-none told some none = never (sym some ∙ none)
+  where
+    never : true ≡ false → ⊥
+    never e = cc
+
+-- what is told is seen
+pub removed-seen : (old new : Page) (key : ℕ) (told : Option Change) → Removed old.tokens new.tokens key → (IsNone told ↔ Has (anchors key) old.tokens) → IsSome told → view_of new ≢ view_of old
+removed-seen old new key told r none is e = go (span-seen key r.own r.span)
+  where
+    go : (1 ≤ length (seen r.own)) ⊎ Has (anchors key) r.own → ⊥
+    go (inl h) =
+        let a = ap (λ ts. length (seen ts)) r.was ∙ (ap length (seen-three r.pre r.own r.post) ∙ length-append (seen r.pre) (seen r.own ++ seen r.post)) in
+        let b = length-append (seen r.own) (seen r.post) in
+        let c = ap (λ ts. length (seen ts)) r.is ∙ (ap length (seen-append r.pre r.post) ∙ length-append (seen r.pre) (seen r.post)) in
+        let d = ap (λ (v : View). length v.tokens) e in
+        omega (arith, h, a, b, c, d)
+    go (inr h) = some-none told is (none.1 (subst (Has (anchors key)) (sym r.was) (has-right (anchors key) r.pre _ (has-left (anchors key) r.own r.post h))))

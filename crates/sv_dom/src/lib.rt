@@ -2,7 +2,7 @@
 //! of its tokens in document order, so that each call edits one place of the list and leaves all around it.
 #![tactic(auto)]
 
-ghost use Rattle.std.specs.Prelude.{◌≡◌, ◌≢◌, ◌+◌, ◌∷◌, ◌^◌, ◌<◌, [], IfOk, OnOk, OnErr, IsSome, IsNone, None, ◌↔◌, ℕ, IfSome};
+ghost use Rattle.std.specs.Prelude.{◌≡◌, ◌≢◌, ◌+◌, ◌∷◌, ◌^◌, ◌<◌, ◌≤◌, [], IfOk, OnOk, OnErr, IsSome, IsNone, None, ◌↔◌, ℕ, IfSome};
 ghost use Rattle.sv_tokens.specs.Counting.{times, Has};
 ghost use Rattle.sv_tokens.specs.Token.{named, Text as text_token, Anchor as anchor_token, opens, texts, anchors, begins, identifies, first_key, lacks_number, name_at, parent_at, IsPlace, IsBeside};
 ghost use Rattle.sv_tokens.specs.Numbering.{numbered};
@@ -92,10 +92,11 @@ impl Dom {
         })
     }
 
-    /// The page itself, under which everything stands.
+    /// The page itself, under which everything stands. No two nodes have one key.
     pub fn page(&self) -> Node
         ensures key { result.0 ≡ 0 }
         ensures stands { Has (opens 0) self.now.tokens }
+        ensures once { (key : ℕ) → times (begins key) self.now.tokens ≤ 1 }
     {
         let _ = &self.nodes;
         Node(0)
@@ -318,7 +319,7 @@ impl Dom {
         relocation_of(entry_at(&self.nodes, node.0 as usize), followers)
     }
 
-    /// Takes away a node and all below it. `None` exactly for an anchor, which nobody sees.
+    /// Takes away a node and all below it. `None` exactly for an anchor, which nobody sees; what is told is seen.
     pub fn remove(&mut self, node: Node) -> Option<Change>
         requires stands { Has (begins node.0) self.old.tokens }
         requires below { node.0 ≢ 0 }
@@ -327,6 +328,7 @@ impl Dom {
         ensures number { self.new.number ≡ self.old.number }
         ensures told { view_of self.new ≡ replay_if result (view_of self.old) }
         ensures none { IsNone result ↔ Has (anchors node.0) self.old.tokens }
+        ensures some { IsSome result → view_of self.new ≢ view_of self.old }
     {
         let told = removal_of(entry_at(&self.nodes, node.0 as usize));
         remove_in(&mut self.nodes, self.next, node.0);

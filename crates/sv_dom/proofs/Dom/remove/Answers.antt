@@ -1,5 +1,5 @@
-use Rattle.std.proofs.Common.{◌≡◌, ◌∙◌, sym, subst, ap, Option}
-use Rattle.std.specs.Prelude.{IsNone, ◌↔◌}
+use Rattle.std.proofs.Common.{◌≡◌, ◌≢◌, ◌∙◌, sym, subst, ap, Option}
+use Rattle.std.specs.Prelude.{IsNone, IsSome, ◌↔◌}
 use Rattle.sv_tokens.specs.Counting.{Has}
 use Rattle.sv_tokens.specs.Token.{Page, begins, anchors}
 use Rattle.sv_tokens.specs.Seen.{view_of}
@@ -8,7 +8,7 @@ use Rattle.sv_tokens.specs.declared.change.Change.{Change}
 use Rattle.sv_nodes.specs.Cells.{cell_of, nodes_of}
 use Rattle.sv_nodes.proofs.Slabs.{at_node, stands-live}
 use Rattle.sv_dom.specs.Dom.{page_of, removal}
-use Rattle.sv_dom.proofs.Removal.{anchor-stands, removed-dom, removed-told}
+use Rattle.sv_dom.proofs.Removal.{anchor-stands, removed-dom, removed-told, removed-seen}
 use Rattle.sv_dom.proofs.Dom.remove.Goals as goal
 
 pub entry_at-requires : goal.entry_at-requires
@@ -37,3 +37,9 @@ returns-clause-none c =
     let here = at_node c.self.inside.nodes p c.entry_at.result.now c.entry_at.ensures in
     subst (λ (r : Option Change). IsNone r ↔ Has (anchors p) c.args.self.now.tokens) (sym c.removal_of-told.ensures)
     (subst (λ (z : Page). IsNone (removal (cell_of c.entry_at.result.now)) ↔ Has (anchors p) z.tokens) c.self.view_is (anchor-stands (nodes_of c.self.inside.nodes.slots) c.self.inside.next p (cell_of c.entry_at.result.now) c.self.invariant.sound here has))
+
+pub returns-clause-some : goal.returns-clause-some
+returns-clause-some c =
+    subst (λ (z : Page). IsSome c.removal_of-told.result → view_of (page_of (nodes_of c.remove_in.new.nodes.slots) c.self.inside.next c.self.inside.number) ≢ view_of z) c.self.view_is
+    (removed-seen (page_of (nodes_of c.self.inside.nodes.slots) c.self.inside.next c.self.inside.number) (page_of (nodes_of c.remove_in.new.nodes.slots) c.self.inside.next c.self.inside.number) c.args.node.0 c.removal_of-told.result c.remove_in.ensures.tokens
+    (subst (λ (z : Page). IsNone c.removal_of-told.result ↔ Has (anchors c.args.node.0) z.tokens) (sym c.self.view_is) (returns-clause-none c)))
