@@ -1,0 +1,10 @@
+pub mod Shown
+pub mod Stands
+pub mod Steps
+pub mod Inside
+pub mod Plain
+pub mod Regions
+pub mod Sizes
+pub mod Known
+pub mod Slots
+pub mod Kept

@@ -1,0 +1,7 @@
+pub mod formers
+pub mod Attributes
+pub mod Shown
+pub mod Known
+pub mod Kept
+pub mod Stands
+pub mod Walk
