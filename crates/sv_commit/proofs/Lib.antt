@@ -1,0 +1,9 @@
+pub mod Results
+pub mod Telling
+pub mod Standing
+pub mod Dressing
+pub mod Placing
+pub mod Rooted
+pub mod Names
+pub mod Keeping
+pub mod Asking

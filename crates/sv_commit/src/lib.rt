@@ -1,0 +1,17 @@
+//! Brings a page to what is to be shown, and tells each change. What stays keeps its node.
+#![tactic(auto)]
+
+mod arrange;
+mod begin;
+mod dress;
+mod make;
+mod root;
+mod screen;
+mod shift;
+mod spot;
+mod stand;
+
+pub use arrange::commit;
+pub use root::{blank, show};
+pub use screen::Screen;
+pub use spot::Spot;
