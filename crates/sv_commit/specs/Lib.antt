@@ -1,3 +1,4 @@
 pub mod Asked
+pub mod Child
 pub mod Dress
 pub mod Root

@@ -58,12 +58,7 @@ fn place_all(
 
 // Places one before those that are placed.
 #[cycle(commit)]
-fn place_one(
-    screen: &mut Screen,
-    spot: Spot,
-    walk: &mut Walk,
-    node: &Node,
-) -> Result<(), NoMemory>
+fn place_one(screen: &mut Screen, spot: Spot, walk: &mut Walk, node: &Node) -> Result<(), NoMemory>
     requires { Stands screen.old.page (name_of spot.above) spot.end (walk.old.rest ++ walk.old.placed) }
     ensures becomes { OnOk result (Becomes screen.old screen.new (name_of spot.above) spot.end (walk.old.rest ++ walk.old.placed) (walk.new.rest ++ walk.new.placed)) }
     ensures shown { OnOk result (plainly_all walk.new.placed ≡ flat node.now ++ plainly_all walk.old.placed) }
@@ -124,12 +119,7 @@ fn place_element(
     })
 }
 
-fn place_hole(
-    screen: &mut Screen,
-    spot: Spot,
-    walk: &mut Walk,
-    place: u64,
-) -> Result<(), NoMemory>
+fn place_hole(screen: &mut Screen, spot: Spot, walk: &mut Walk, place: u64) -> Result<(), NoMemory>
     requires { Stands screen.old.page (name_of spot.above) spot.end (walk.old.rest ++ walk.old.placed) }
     ensures becomes { OnOk result (Becomes screen.old screen.new (name_of spot.above) spot.end (walk.old.rest ++ walk.old.placed) (walk.new.rest ++ walk.new.placed)) }
     ensures shown { OnOk result (plainly_all walk.new.placed ≡ node.Hole place ∷ plainly_all walk.old.placed) }

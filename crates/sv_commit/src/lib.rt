@@ -4,6 +4,7 @@
 mod arrange;
 mod begin;
 mod dress;
+mod laws;
 mod make;
 mod root;
 mod screen;
@@ -12,6 +13,7 @@ mod spot;
 mod stand;
 
 pub use arrange::commit;
+pub use laws::places_nest;
 pub use root::{blank, show};
 pub use screen::Screen;
 pub use spot::Spot;

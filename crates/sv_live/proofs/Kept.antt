@@ -1,13 +1,12 @@
 -- What stays keeps its node, step by step.
-use Rattle.std.proofs.Common.{◌≡◌, ◌≢◌, ◌≤◌, ◌+◌, ℕ, List, [], ◌∷◌, ◌++◌, Bool, true, Option, Some, None, refl, ap, sym, ◌∙◌, arith, subst, append_assoc}
-use Rattle.std.proofs.lemmas.Bool.{eq-eqb, ne_eqb}
+use Rattle.std.proofs.Common.{◌≡◌, ◌≤◌, ℕ, List, [], ◌∷◌, ◌++◌, Option, Some, None, refl, ap, sym, ◌∙◌, arith, subst, append_assoc}
+use Rattle.std.proofs.lemmas.Bool.{eq-eqb}
 use Rattle.std.proofs.lemmas.List.{append-nil}
-use Rattle.sv_tokens.specs.Counting.{times, one, Has}
+use Rattle.sv_tokens.specs.Counting.{times, one}
 use Rattle.sv_tokens.proofs.Counting.{times-append}
 use Rattle.sv_live.specs.declared.live.Named.{Named}
 use Rattle.sv_live.specs.declared.live.Live.{Live}
-use Rattle.sv_live.specs.declared.node.Own.{Own}
-use Rattle.sv_live.specs.Known.{number, answers, known, text_node, element_node, inside, seat}
+use Rattle.sv_live.specs.Known.{number, answers, known, text_node, element_node, inside}
 use Rattle.sv_live.specs.Kept.{IsNamed, IsSole, IsKept, kept_text, kept_element, kept_hole, AreKept}
 use Rattle.sv_live.specs.Walk.{Walk, KeepsOthers, Places}
 

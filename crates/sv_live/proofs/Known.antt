@@ -1,11 +1,10 @@
 -- Which one is known by a number.
-use Rattle.std.proofs.Common.{◌≡◌, ◌≢◌, ◌≤◌, ◌+◌, ℕ, List, [], ◌∷◌, ◌++◌, Bool, true, false, Option, Some, None, refl, ap, sym, ◌∙◌, arith, subst}
+use Rattle.std.proofs.Common.{◌≡◌, ◌≢◌, ℕ, List, [], ◌∷◌, ◌++◌, Bool, true, false, Option, Some, None, refl, ap, sym, ◌∙◌, arith}
 use Rattle.std.specs.Prelude.{if◌then◌else◌, is_some}
 use Rattle.std.proofs.lemmas.Bool.{eq-eqb, ne_eqb}
 use Rattle.sv_tokens.specs.Counting.{times, one}
 use Rattle.sv_live.specs.declared.live.Live.{Live}
 use Rattle.sv_live.specs.Known.{number, answers, or_else, known}
-use Rattle.sv_live.specs.Walk.{KeepsOthers}
 
 -- whether the first of them is known by the number
 abbrev hit : ℕ → Live → Option Live

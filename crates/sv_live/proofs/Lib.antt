@@ -8,3 +8,4 @@ pub mod Sizes
 pub mod Known
 pub mod Slots
 pub mod Kept
+pub mod Ascending

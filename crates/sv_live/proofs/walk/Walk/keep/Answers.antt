@@ -1,4 +1,4 @@
-use Rattle.std.proofs.Common.{◌≡◌, ap, sym, ◌∙◌, subst, ◌∷◌, [], ◌++◌, ℕ, List, Option, Some, None, length, rules}
+use Rattle.std.proofs.Common.{◌≡◌, ap, sym, ◌∙◌, subst, ◌∷◌, List, Option, Some, length, rules}
 use Rattle.std.specs.BTreeMap.{Updates}
 use Rattle.std.specs.Ordering.{nat_cmp}
 use Rattle.sv_live.specs.declared.live.Live.{Live}
