@@ -1,11 +1,12 @@
 // What is to be shown, as a line of words: `1=a` is a text with the mark 1, `2:p` an element with the mark 2, behind which stand in
-// brackets, parted by commas, the texts in it, `2:p[3=b,4=c]`, and `#5` a child component at the place 5. An element behind whose
-// name stands `!` has the text that stands there typed in it. Words with `+` between are one block.
+// brackets, parted by commas, the texts in it, `2:p[3=b,4=c]`, and `#5` a child component at the place 5. Behind the name of an
+// element stand its attributes, `.0-class=x.1-hidden`, each with its slot, and behind `!` the text that is typed in it. Words with `+`
+// between are one block.
 use std::alloc::Global;
 use sv_base::{NoMemory, Text};
 use sv_list::Items;
 use sv_live::{Attributes, Node, Nodes, Own};
-use sv_tokens::Typed;
+use sv_tokens::{Attr, Attribute, Typed};
 
 /// What the words say.
 pub fn shape(alloc: Global, words: &str) -> Result<Nodes, NoMemory> {
@@ -55,15 +56,40 @@ fn element(alloc: Global, mark: u64, word: &str) -> Result<Node, NoMemory> {
 }
 
 fn own(alloc: Global, mark: u64, head: &str) -> Result<Own, NoMemory> {
-    let (name, typed) = match head.split_once('!') {
-        Some((name, typed)) => (name, Some(Typed::Text(Text::new(alloc, typed)?))),
+    let (shown, typed) = match head.split_once('!') {
+        Some((shown, typed)) => (shown, Some(Typed::Text(Text::new(alloc, typed)?))),
         None => (head, None),
     };
+    let (name, rest) = shown.split_once('.').unwrap_or((shown, ""));
     Ok(Own {
         mark,
         name: Text::new(alloc, name)?,
-        attributes: Attributes::new(alloc),
+        attributes: attributes(alloc, rest)?,
         typed,
+    })
+}
+
+fn attributes(alloc: Global, words: &str) -> Result<Attributes, NoMemory> {
+    let mut all = Attributes::new(alloc);
+    for word in words.split('.') {
+        if !word.is_empty() {
+            all.push(attribute(alloc, word)?)?;
+        }
+    }
+    Ok(all)
+}
+
+fn attribute(alloc: Global, word: &str) -> Result<Attribute, NoMemory> {
+    let (slot, shown) = word.split_once('-').unwrap_or(("", word));
+    let slot = slot.parse::<u16>().unwrap_or(0);
+    let (name, value) = match shown.split_once('=') {
+        Some((name, value)) => (name, Attr::Text(Text::new(alloc, value)?)),
+        None => (shown, Attr::Flag),
+    };
+    Ok(Attribute {
+        slot,
+        name: Text::new(alloc, name)?,
+        value,
     })
 }
 
