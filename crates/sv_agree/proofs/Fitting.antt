@@ -17,9 +17,8 @@ use Rattle.sv_code.specs.declared.parts.Part.{Part}
 use Rattle.sv_code.specs.declared.parts.Reading.{Reading}
 use Rattle.sv_code.specs.declared.program.Program.{Program}
 use Rattle.sv_code.specs.declared.tags.Tag.{Tag}
-use Rattle.sv_fresh.specs.Blocks.{items_in}
 use Rattle.sv_local.specs.Looks.{AreAlikeAt}
-use Rattle.sv_plan.specs.Lists.{Head, row_view}
+use Rattle.sv_plan.specs.Lists.{Head, row_view, items_in}
 use Rattle.sv_right.proofs.Lists.{some_same}
 use Rattle.sv_right.specs.Right.{AreRowsTrue, key_by}
 use Rattle.sv_shapes.specs.Shapes.{Opened, list_in}
@@ -89,7 +88,7 @@ module _ (p : Program) where
   pub rows_agree : (scope : Scope) (h : Head) (v v' : View) (held : Opened) → IsIn scope h.list → IsKeyIn (in_row h scope) h.key → AgreesAt scope v v' → AreRowsTrue p h v held → AreRowsTrue p h v' held
   rows_agree scope h v v' held list key a k = record {
     is = k.is;
-    items = k.items ∙ ap items_in (same_in scope h.list v v' list a);
+    items = sym (ap (option_and_then items_in) (same_in scope h.list v v' list a)) ∙ k.items;
     keys = λ i row e. sym (key_same scope h h.key (unwrap_or (list_in held) 0) i row.item v v' key a) ∙ k.keys i row e;
     once = k.once;
     idle = k.idle;

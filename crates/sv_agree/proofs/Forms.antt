@@ -1,10 +1,10 @@
 -- What is claimed on a view follows on each view that agrees with it: form by form.
-use Rattle.std.proofs.Common.{◌≡◌, ℕ, suc, Bool, true, ◌||◌, List, [], ◌∷◌, map, length, Option, Some, None, unwrap_or, refl, ap, ◌∙◌}
+use Rattle.std.proofs.Common.{◌≡◌, ℕ, suc, Bool, true, ◌||◌, List, [], ◌∷◌, map, length, Option, Some, None, unwrap_or, refl, sym, ap, ◌∙◌, subst}
 use Rattle.std.specs.Prelude.{slice_get}
 use Rattle.sv_agree.proofs.Fitting.{IsIn, AreIn, IsKeyIn, same_in, same_attrs, tag_look, tag_attrs, tag_agrees, in_row, rows_agree}
 use Rattle.sv_agree.proofs.Pairs.{Follows, Follow, pairs_append, pairs_each}
 use Rattle.sv_agree.proofs.Scopes.{or_true, row_with}
-use Rattle.sv_agree.proofs.Values.{IsSame, text_same, states_same, all_kept, prop_stays, choose_same}
+use Rattle.sv_agree.proofs.Values.{IsSame, text_same, states_same, succeed_same, all_kept, prop_stays, choose_same, tests_same}
 use Rattle.sv_agree.specs.Agreeing.{OfOwners, slot_in_tag, AgreesWith, AgreesAbove, in_any}
 use Rattle.sv_agree.specs.Scopes.{Scope, StaysIn}
 use Rattle.sv_attributes.specs.Each as lists
@@ -27,6 +27,7 @@ use Rattle.sv_right.proofs.Standing.{Layer}
 use Rattle.sv_right.proofs.Tags.{tag_layer}
 use Rattle.sv_right.specs.Claims.{Claimer, Walker, Filled, claim_each, rows_claims, none_claims, slot_claims}
 use Rattle.sv_right.specs.Right.{IsTagTrue}
+use Rattle.sv_right.specs.Succeeds.{tests_succeed}
 use Rattle.sv_shapes.specs.Shapes.{Opened, props_in, arm_in, list_in, rows_in, parts_in}
 use Rattle.sv_shapes.specs.declared.shape.Row.{Row}
 use Rattle.sv_shapes.specs.declared.shape.Shape.{Shape}
@@ -103,7 +104,8 @@ module _ (p : Program) (depth : ℕ) where
     pub agrees_element : (scope : Scope) (slot : Bool) (attrs : List FragAttr) (claims claims' : Walker) → AreIn p scope attrs → AgreesAll scope slot claims claims' →
         AgreesLayer scope slot (element_layer attrs claims) (element_layer attrs claims')
     agrees_element scope slot attrs claims claims' fits agrees v v' held a =
-        (record { holds = λ h. (h.0, h.1 ∙ states_same p v v' attrs (same_attrs p scope attrs v v' fits a.0)); tags = tt }, agrees v v' (parts_in held) a)
+        let same = same_attrs p scope attrs v v' fits a.0 in
+        (record { holds = λ h. ((h.0.0, succeed_same p v v' attrs same h.0.1), h.1 ∙ states_same p v v' attrs same); tags = tt }, agrees v v' (parts_in held) a)
 
     -- ---- slots
 
@@ -120,7 +122,11 @@ module _ (p : Program) (depth : ℕ) where
         AgreesLayer scope slot (if_layer ts claims) (if_layer ts' claims')
     agrees_if scope slot ts ts' claims claims' same fits agrees v v' held a = (
       record {
-        holds = λ h. h ∙ ap Some (choose_same p v v' ts 0 (each_mono (IsIn p scope) (IsSame p v v') (λ t k. same_in p scope t v v' k a.0) ts fits) ∙ ap (λ zs. choose p v' zs 0) same);
+        holds = λ h.
+            let each = each_mono (IsIn p scope) (IsSame p v v') (λ t k. same_in p scope t v v' k a.0) ts fits in (
+              subst (λ zs. tests_succeed p v' zs ≡ true) same (sym (tests_same p v v' ts each) ∙ h.0),
+              h.1 ∙ ap Some (choose_same p v v' ts 0 each ∙ ap (λ zs. choose p v' zs 0) same),
+            );
         tags = tt;
       },
       agrees (unwrap_or (arm_in held) 0) v v' (parts_in held) a,

@@ -1,5 +1,5 @@
 -- Where each part has the same value on two views, so has all that is made of values; and the parts of attributes that stay within a scope do.
-use Rattle.std.proofs.Common.{◌≡◌, ℕ, suc, Bool, true, false, nat_eq, List, [], ◌∷◌, ◌++◌, map, Option, Some, None, option_map, unwrap_or, refl, sym, ap, ap₂, ◌∙◌, if◌then◌else◌}
+use Rattle.std.proofs.Common.{◌≡◌, ℕ, suc, Bool, true, false, ◌&&◌, ◌||◌, nat_eq, List, [], ◌∷◌, ◌++◌, map, Option, Some, None, is_some, option_map, unwrap_or, refl, sym, ap, ap₂, ◌∙◌, if◌then◌else◌}
 use Rattle.std.specs.Option.{option_and_then}
 use Rattle.sv_agree.proofs.Scopes.{IsSeenIn, value_same}
 use Rattle.sv_agree.specs.Scopes.{Scope, AgreesAt}
@@ -26,6 +26,7 @@ use Rattle.sv_fresh.specs.Values.{value_at, text_at, holds_at, is_truthy, piece_
 use Rattle.sv_ops.specs.Texts.{between}
 use Rattle.sv_right.specs.Right.{IsProp, joined_texts, kept_texts, passed_at, or_first, first_passing}
 use Rattle.sv_parts.specs.Tags.{passed_name}
+use Rattle.sv_right.specs.Succeeds.{can_show, parts_succeed, attr_succeeds, Succeeds, tests_succeed}
 use Rattle.sv_shapes.specs.declared.shape.AttrState.TheVariants as state
 use Rattle.sv_shapes.specs.declared.shape.SlotProp.{SlotProp}
 use Rattle.sv_value.specs.Value.{text}
@@ -113,6 +114,20 @@ module _ (p : Program) (v v' : View) where
   states_same (a ∷ attrs) h =
       ap₂ (λ st sts. st ∷ sts) (state_same a (each_front IsSame (parts.of_attr a) (parts.of_attrs attrs) h)) (states_same attrs (each_back IsSame (parts.of_attr a) (parts.of_attrs attrs) h))
 
+  succeeds_same : (a : FragAttr) → Each IsSame (parts.of_attr a) → attr_succeeds p v a ≡ attr_succeeds p v' a
+  succeeds_same (attr.Plain span name value.Bare) h = refl
+  succeeds_same (attr.Plain span name (value.Parts xs)) h =
+      alone_same (λ o. parts_succeed p v name xs o ≡ parts_succeed p v' name xs o) xs (ap (λ o. is_literal xs || is_some o) (texts_same xs [] h))
+      (λ part e. ap (can_show (is_boolean p name)) e) h
+  succeeds_same (attr.On handler reads) h = refl
+  succeeds_same (attr.Bind span name part) h = ap (can_show (is_boolean p name)) h.0
+  succeeds_same (attr.Class span name part) h = ap is_some h.0
+
+  pub succeed_same : (attrs : List FragAttr) → Each IsSame (parts.of_attrs attrs) → Each (Succeeds p v) attrs → Each (Succeeds p v') attrs
+  succeed_same [] h k = tt
+  succeed_same (a ∷ attrs) h k =
+      (sym (succeeds_same a (each_front IsSame (parts.of_attr a) (parts.of_attrs attrs) h)) ∙ k.0, succeed_same attrs (each_back IsSame (parts.of_attr a) (parts.of_attrs attrs) h) k.1)
+
   pub all_kept : (attrs : List FragAttr) → Each IsSame (parts.of_attrs attrs) → map (kept_texts p v) attrs ≡ map (kept_texts p v') attrs
   all_kept [] h = refl
   all_kept (a ∷ attrs) h =
@@ -146,6 +161,10 @@ module _ (p : Program) (v v' : View) where
   pub choose_same : (ts : List Part) (i : ℕ) → Each IsSame ts → choose p v ts i ≡ choose p v' ts i
   choose_same [] i h = refl
   choose_same (t ∷ ts) i h = ap₂ (λ b n. if b then i else n) (holds_same t h.0) (choose_same ts (suc i) h.1)
+
+  pub tests_same : (ts : List Part) → Each IsSame ts → tests_succeed p v ts ≡ tests_succeed p v' ts
+  tests_same [] h = refl
+  tests_same (t ∷ ts) h = ap₂ (λ o b. is_some o && (is_truthy o || b)) h.0 (tests_same ts h.1)
 
 -- ---- attributes within a scope
 

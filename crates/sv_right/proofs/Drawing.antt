@@ -25,6 +25,7 @@ use Rattle.sv_plan.specs.Lists.{Head, row_view}
 use Rattle.sv_plan.specs.Slots.{content_view}
 use Rattle.sv_right.proofs.Alike.{value_alike, text_alike, states_alike, choose_alike, row_alike, content_alike, named_row, named_content, props_alike, props_same}
 use Rattle.sv_right.proofs.Forms.{text_layer, element_layer, if_layer, key_layer}
+use Rattle.sv_right.proofs.Listing.{listed_items}
 use Rattle.sv_right.proofs.Lists.{Along, each_there}
 use Rattle.sv_right.proofs.Rows.{each_layer}
 use Rattle.sv_right.proofs.Slots.{slot_layer}
@@ -132,7 +133,7 @@ module _ (page : Page) (evaluates records : Descent) where
   pub draws_if : (ts : List Part) (claims : ℕ → Walker) (e r : ℕ → fresh.Walker) → ((i : ℕ) → DrawsAll (claims i) (e i) (r i)) →
       DrawsLayer (if_layer ts claims) (λ v held. e (choose page.program v ts 0) v (parts_in held)) (λ v held. r (unwrap_or (arm_in held) 0) v (parts_in held))
   draws_if ts claims e r draws v now kept held h alike named =
-      ap (λ i. e i now (parts_in held)) (sym (choose_alike page.program v now (same_values v now alike) ts 0) ∙ sym (ap (λ o. unwrap_or o 0) h.0.0))
+      ap (λ i. e i now (parts_in held)) (sym (choose_alike page.program v now (same_values v now alike) ts 0) ∙ sym (ap (λ o. unwrap_or o 0) h.0.0.1))
       ∙ draws (unwrap_or (arm_in held) 0) v now kept (parts_in held) h.1 alike named
 
   pub draws_key : (part : Part) (claims : Walker) (e r : fresh.Walker) → DrawsAll claims e r → DrawsLayer (key_layer part claims) (λ v held. e v (parts_in held)) (λ v held. r v (parts_in held))
@@ -168,6 +169,6 @@ module _ (page : Page) (evaluates records : Descent) where
   draws_each h claims none e r e' r' draws draws_none v now kept held k alike named =
       let n = unwrap_or (list_in held) 0 in
       let rows = rows_in held in
-      ap (list_nodes h e e' now held) (ap items_in (sym (same_values v now alike h.list)) ∙ sym k.0.0.items)
+      ap (list_nodes h e e' now held) (ap items_in (sym (same_values v now alike h.list)) ∙ listed_items (value_at page.program v h.list) (row_items rows) k.0.0.items)
       ∙ draws_list h claims none e r e' r' n v now kept held draws draws_none alike named rows refl
       (each_front Holds (rows_claims h claims n v rows) (none_claims none v rows (parts_in held)) k.1) (each_back Holds (rows_claims h claims n v rows) (none_claims none v rows (parts_in held)) k.1)

@@ -1,5 +1,5 @@
 -- Texts, elements, if blocks and key blocks.
-use Rattle.std.proofs.Common.{◌≡◌, inl, inr, ℕ, suc, ◌≤◌, Bool, true, false, List, [], ◌∷◌, Option, Some, None, option_map, unwrap_or, refl, sym, ap, ap₂, ◌∙◌, subst, arith, Ok, eqb-true, if◌then◌else◌}
+use Rattle.std.proofs.Common.{◌≡◌, inl, inr, ℕ, suc, ◌≤◌, Bool, true, false, ◌&&◌, ◌||◌, List, [], ◌∷◌, Option, Some, None, is_some, option_map, unwrap_or, refl, sym, ap, ap₂, ◌∙◌, subst, arith, Ok, eqb-true, if◌then◌else◌}
 use Rattle.sv_code.specs.Names.{Each}
 use Rattle.sv_code.specs.Parts.{of_attrs}
 use Rattle.sv_code.specs.Within.{IsWithin}
@@ -20,12 +20,13 @@ use Rattle.sv_parts.specs.declared.state.State.{State}
 use Rattle.sv_plan.specs.Blocks.{any_moved, choose, chosen, is_arm, settled_with, settled_anew, settled_moved, settled}
 use Rattle.sv_plan.specs.Plan as plans
 use Rattle.sv_plan.specs.declared.blocks.Settled.{Settled}
-use Rattle.sv_right.proofs.Attributes.{WereStates, attrs_after}
+use Rattle.sv_right.proofs.Attributes.{WereStates, AreStates, attrs_after}
 use Rattle.sv_right.proofs.Steps.{After, then_after, more_after, if_after, Grows, Up, grows_same, grows_on}
 use Rattle.sv_right.proofs.Standing.{Start, WasTrue, Layer, WasLayer, StaysLayer, NowAll, WereAll, StayAll, made, parts_below, were_on}
 use Rattle.sv_right.proofs.Texts.{or_left, or_right}
 use Rattle.sv_right.proofs.Values.{Valued, Texted, WasText, evaluated_after, still_value, text_step_after}
 use Rattle.sv_right.specs.Claims.{Claim, Walker, OfLiteral, OfText, OfElement, OfIf, OfKey}
+use Rattle.sv_right.specs.Succeeds.{tests_succeed}
 use Rattle.sv_shapes.specs.Shapes.{Opened, mark_in, text_in, element_in, typed_in, states_in, arm_in, key_in, parts_in}
 use Rattle.sv_shapes.specs.declared.shape.KeyState.{KeyState}
 use Rattle.sv_shapes.specs.declared.shape.Shape.{Shape, Shape-F}
@@ -97,21 +98,21 @@ element_layer attrs claims = with_content (λ v held. OfElement attrs v held) cl
 
 were_states : (p : Program) (start : Start) (attrs : List FragAttr) (claims : Walker) (at : Sides) (k : ℕ) (held : Opened) → WasLayer p start (element_layer attrs claims) at k held → WereStates p attrs at (states_in held)
 were_states p start attrs claims at k None was = inl refl
-were_states p start attrs claims at k (Some o) was = inr (was.1.0.own.versions, was.1.1.right.0.0.1)
+were_states p start attrs claims at k (Some o) was = inr (was.1.0.own.versions, (was.1.1.right.0.0.1, was.1.1.right.0.0.0.1))
 
 -- what attributes come to on a view
 abbrev Opens : Program → List FragAttr → View → State → Opening → State → Type 0
-Opens p attrs v s o u = (o.states ≡ states p v attrs) × Grows s u
+Opens p attrs v s o u = AreStates p attrs v o.states × Grows s u
 
 opening_after : (p : Program) (attrs : List FragAttr) (mark : Option ℕ) (typed : Option Typed) (at : Sides) (held : Opened) (s : State) → Each (IsWithin p) (of_attrs attrs) → WereStates p attrs at (states_in held) →
     After (opening_by p attrs mark typed (states_in held) at s) (Opens p attrs at.new s)
 opening_after p attrs None typed at held s fits were =
     then_after (numbered s) (λ mark v. andThen (attrs_step p attrs [] at v) (λ sts u. Ok (record { mark = mark; typed = None; states = sts }, u))) (Up s) (Opens p attrs at.new s) (omega arith)
-    (λ mark v g. then_after (attrs_step p attrs [] at v) (λ sts u. Ok (record { mark = mark; typed = None; states = sts }, u)) (λ sts u. (sts ≡ states p at.new attrs) × Grows v u) (Opens p attrs at.new s)
+    (λ mark v g. then_after (attrs_step p attrs [] at v) (λ sts u. Ok (record { mark = mark; typed = None; states = sts }, u)) (λ sts u. AreStates p attrs at.new sts × Grows v u) (Opens p attrs at.new s)
     (attrs_after p attrs [] at v fits (inl refl)) (λ sts u h. (h.0, grows_on s v u g h.1)))
 opening_after p attrs (Some mark) typed at held s fits were =
     then_after (attrs_step p attrs (states_in held) at s) (λ sts u. Ok (record { mark = mark; typed = typed_after p at attrs (states_in held) typed; states = sts }, u))
-    (λ sts u. (sts ≡ states p at.new attrs) × Grows s u) (Opens p attrs at.new s) (attrs_after p attrs (states_in held) at s fits were) (λ sts u h. h)
+    (λ sts u. AreStates p attrs at.new sts × Grows s u) (Opens p attrs at.new s) (attrs_after p attrs (states_in held) at s fits were) (λ sts u h. h)
 
 pub element_stays : (p : Program) (start : Start) (attrs : List FragAttr) (walk : plans.Walker) (claims : Walker) → Each (IsWithin p) (of_attrs attrs) → StayAll p start walk claims →
     StaysLayer p start (λ at held s. plans.element_step p attrs walk at held s) (element_layer attrs claims)
@@ -122,7 +123,7 @@ element_stays p start attrs walk claims fits stay at held s was =
     (stay at (parts_in held) v (were_on p start claims at s.counters.next v.counters.next h.1 (parts_in held) (were_parts p start (λ w x. OfElement attrs w x) claims at s.counters.next held was)))
     (λ parts u q. (
       made p start (element_layer attrs claims) at.new u.counters.next (shape.Element o.mark o.typed o.states parts) (Shape-F.Element o.mark o.typed o.states parts) (shape.outs-Element o.mark o.typed o.states parts)
-          (record { right = (((tt, h.0), tt), q.0.right); below = q.0.below }),
+          (record { right = ((((tt, h.0.1), h.0.0), tt), q.0.right); below = q.0.below }),
       grows_on s v u h.1 q.1,
     )))
 
@@ -136,18 +137,45 @@ if_not : {A : Type 0} (b : Bool) (x y : A) → b ≡ false → (if b then x else
 if_not true x y e = absurd (cc)
 if_not false x y e = refl
 
--- the branch that is to be shown on a view
+-- a condition that holds is the last one that is tested
+first_succeeds : (a b c : Bool) → a ≡ true → b ≡ true → (a && (b || c)) ≡ true
+first_succeeds true true c e f = refl
+first_succeeds true false c e f = absurd (cc)
+first_succeeds false b c e f = absurd (cc)
+
+-- behind another one the next is tested
+next_succeeds : (a b c : Bool) → a ≡ true → c ≡ true → (a && (b || c)) ≡ true
+next_succeeds true true c e f = refl
+next_succeeds true false c e f = f
+next_succeeds false b c e f = absurd (cc)
+
+-- the branch that is to be shown on a view, where no condition before it faults, nor its own
+abbrev IsChoice : Program → List Part → ℕ → View → ℕ → Type 0
+IsChoice p ts i v arm = (arm ≡ fresh.choose p v ts i) × (tests_succeed p v ts ≡ true)
+
 abbrev Chooses : Program → List Part → ℕ → View → State → ℕ → State → Type 0
-Chooses p ts i v s arm u = (arm ≡ fresh.choose p v ts i) × Grows s u
+Chooses p ts i v s arm u = IsChoice p ts i v arm × Grows s u
 
 choose_after : (p : Program) (ts : List Part) (i : ℕ) (at : Sides) (s : State) → After (choose p ts i at s) (Chooses p ts i at.new s)
-choose_after p [] i at s = (refl, grows_same s)
+choose_after p [] i at s = ((refl, refl), grows_same s)
 choose_after p (t ∷ ts) i at s =
     then_after (evaluated p t at s) (λ x u. if truthy x then Ok (i, u) else choose p ts (suc i) at u) (Valued p t at.new s) (Chooses p (t ∷ ts) i at.new s) (evaluated_after p t at s)
     (λ x v e. if_after (truthy x) (Ok (i, v)) (choose p ts (suc i) at v) (Chooses p (t ∷ ts) i at.new s)
-    (λ q. (sym (if_so (holds_at p at.new t) i (fresh.choose p at.new ts (suc i)) (ap is_truthy e.0 ∙ q)), e.1))
+    (λ q. (
+      (
+        sym (if_so (holds_at p at.new t) i (fresh.choose p at.new ts (suc i)) (ap is_truthy e.0 ∙ q)),
+        first_succeeds (is_some (value_at p at.new t)) (holds_at p at.new t) (tests_succeed p at.new ts) (ap is_some e.0) (ap is_truthy e.0 ∙ q),
+      ),
+      e.1,
+    ))
     (λ q. more_after (choose p ts (suc i) at v) (Chooses p ts (suc i) at.new v) (Chooses p (t ∷ ts) i at.new s) (choose_after p ts (suc i) at v)
-    (λ arm u h. (h.0 ∙ sym (if_not (holds_at p at.new t) i (fresh.choose p at.new ts (suc i)) (ap is_truthy e.0 ∙ q)), grows_on s v u e.1 h.1))))
+    (λ arm u h. (
+      (
+        h.0.0 ∙ sym (if_not (holds_at p at.new t) i (fresh.choose p at.new ts (suc i)) (ap is_truthy e.0 ∙ q)),
+        next_succeeds (is_some (value_at p at.new t)) (holds_at p at.new t) (tests_succeed p at.new ts) (ap is_some e.0) h.0.1,
+      ),
+      grows_on s v u e.1 h.1,
+    ))))
 
 -- where no condition moved, the same branch is to be shown
 still_choose : (p : Program) (ts : List Part) (i : ℕ) (at : Sides) → Each (IsWithin p) ts → AreVersions at.old at.new → any_moved ts at ≡ false → fresh.choose p at.old ts i ≡ fresh.choose p at.new ts i
@@ -156,15 +184,24 @@ still_choose p (t ∷ ts) i at fits all e =
     ap₂ (λ b n. if b then i else n) (ap is_truthy (still_value p t at fits.0 all (or_left (moved t.reads at) (any_moved ts at) e)))
     (still_choose p ts (suc i) at fits.1 all (or_right (moved t.reads at) (any_moved ts at) e))
 
+still_succeed : (p : Program) (ts : List Part) (at : Sides) → Each (IsWithin p) ts → AreVersions at.old at.new → any_moved ts at ≡ false → tests_succeed p at.old ts ≡ tests_succeed p at.new ts
+still_succeed p [] at fits all e = refl
+still_succeed p (t ∷ ts) at fits all e =
+    ap₂ (λ o b. is_some o && (is_truthy o || b)) (still_value p t at fits.0 all (or_left (moved t.reads at) (any_moved ts at) e))
+    (still_succeed p ts at fits.1 all (or_right (moved t.reads at) (any_moved ts at) e))
+
 -- the branch that was shown is the one that was to be shown on the old view
 abbrev WasChosen : Program → List Part → Sides → Option ℕ → Type 0
-WasChosen p ts at old = (arm : ℕ) → old ≡ Some arm → AreVersions at.old at.new × (arm ≡ fresh.choose p at.old ts 0)
+WasChosen p ts at old = (arm : ℕ) → old ≡ Some arm → AreVersions at.old at.new × IsChoice p ts 0 at.old arm
 
 chosen_after : (p : Program) (ts : List Part) (old : Option ℕ) (at : Sides) (s : State) → Each (IsWithin p) ts → WasChosen p ts at old → After (chosen p ts old at s) (Chooses p ts 0 at.new s)
 chosen_after p ts None at s fits was = choose_after p ts 0 at s
 chosen_after p ts (Some arm) at s fits was =
     if_after (any_moved ts at) (choose p ts 0 at s) (Ok (arm, s)) (Chooses p ts 0 at.new s) (λ _. choose_after p ts 0 at s)
-    (λ e. ((was arm refl).1 ∙ still_choose p ts 0 at fits (was arm refl).0 e, grows_same s))
+    (λ e. (
+      ((was arm refl).1.0 ∙ still_choose p ts 0 at fits (was arm refl).0 e, sym (still_succeed p ts at fits (was arm refl).0 e) ∙ (was arm refl).1.1),
+      grows_same s,
+    ))
 
 -- what is claimed of an if block
 abbrev pub if_layer : List Part → (ℕ → Walker) → Layer
@@ -175,7 +212,8 @@ unwrapped o n e = ap (λ z. unwrap_or z 0) e
 
 was_chosen : (p : Program) (start : Start) (ts : List Part) (claims : ℕ → Walker) (at : Sides) (k : ℕ) (held : Opened) → WasLayer p start (if_layer ts claims) at k held → WasChosen p ts at (arm_in held)
 was_chosen p start ts claims at k None was arm e = absurd (cc)
-was_chosen p start ts claims at k (Some o) was arm e = (was.1.0.own.versions, sym (unwrapped (arm_in (Some o)) arm e) ∙ ap (λ z. unwrap_or z 0) was.1.1.right.0.0)
+was_chosen p start ts claims at k (Some o) was arm e =
+    (was.1.0.own.versions, (sym (unwrapped (arm_in (Some o)) arm e) ∙ ap (λ z. unwrap_or z 0) was.1.1.right.0.0.1, was.1.1.right.0.0.0))
 
 is_same : (old : Option ℕ) (arm : ℕ) → is_arm old arm ≡ true → old ≡ Some arm
 is_same None arm e = absurd (cc)
@@ -204,7 +242,7 @@ if_stays p start ts walk claims fits stay at held s was =
     (kept_after p start (walk arm) (claims arm) at (is_arm (arm_in held) arm) (parts_in held) v (stay arm) (omega (arith, was.0, h.1))
     (λ e. were_on p start (claims arm) at s.counters.next v.counters.next h.1 (parts_in held) (were_in_arm p start ts claims at s.counters.next arm held was e)))
     (λ parts u q. (
-      made p start (if_layer ts claims) at.new u.counters.next (shape.If arm parts) (Shape-F.If arm parts) (shape.outs-If arm parts) (record { right = ((ap Some h.0, tt), q.0.right); below = q.0.below }),
+      made p start (if_layer ts claims) at.new u.counters.next (shape.If arm parts) (Shape-F.If arm parts) (shape.outs-If arm parts) (record { right = (((h.0.1, ap Some h.0.0), tt), q.0.right); below = q.0.below }),
       grows_on s v u h.1 q.1,
     )))
 

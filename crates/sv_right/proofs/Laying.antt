@@ -146,7 +146,7 @@ module _ (mark : ℕ) (left : Typed) where
     content_left claims v o leaves h = subst (λ ps. Each (IsTrue p) (claims v ps)) (sym (same_layer o).parts) (leaves v (parts_in (Some o)) h)
 
     pub leaves_element : (attrs : List FragAttr) (claims : Walker) → LeavesAll claims → LeavesLayer (element_layer attrs claims)
-    leaves_element attrs claims leaves v o h = ((subst IsThere (sym (same_layer o).elements) h.0.0, (same_layer o).states ∙ h.0.1), content_left claims v o leaves h.1)
+    leaves_element attrs claims leaves v o h = (((subst IsThere (sym (same_layer o).elements) h.0.0.0, h.0.0.1), (same_layer o).states ∙ h.0.1), content_left claims v o leaves h.1)
 
     pub leaves_tag : (tags : List (Option ℕ)) (tag : ℕ) → LeavesLayer (tag_layer tags tag)
     leaves_tag tags tag v o h = (by (slice_get p.tags tag) h.0, tt)
@@ -178,7 +178,7 @@ module _ (mark : ℕ) (left : Typed) where
 
     pub leaves_if : (ts : List Part) (claims : ℕ → Walker) → ((i : ℕ) → LeavesAll (claims i)) → LeavesLayer (if_layer ts claims)
     leaves_if ts claims leaves v o h = (
-      (same_layer o).arms ∙ h.0,
+      (h.0.0, (same_layer o).arms ∙ h.0.1),
       content_left (claims (unwrap_or (arm_in (Some (with_left o))) 0)) v o (leaves (unwrap_or (arm_in (Some (with_left o))) 0))
           (subst (λ arm. Each (IsTrue p) (claims (unwrap_or arm 0) v (parts_in (Some o)))) (sym (same_layer o).arms) h.1),
     )
@@ -229,7 +229,7 @@ module _ (mark : ℕ) (left : Typed) where
     rows_left : (h : Head) (v : View) (o : Shape-F Shape Row) → AreRowsTrue p h v (Some o) → AreRowsTrue p h v (Some (with_left o))
     rows_left h v o k = record {
       is = subst IsThere (sym (same_layer o).lists) k.is;
-      items = ap row_items (same_layer o).rows ∙ laid_items (rows_in (Some o)) ∙ k.items;
+      items = k.items ∙ ap Some (sym (ap row_items (same_layer o).rows ∙ laid_items (rows_in (Some o))));
       keys = in_layer (λ n rows parts. (i : ℕ) (row : Row) → slice_get rows i ≡ Some row → key_at p h (unwrap_or n 0) v i row.item ≡ Some row.key) o
           (keys_left h (unwrap_or (list_in (Some o)) 0) v (rows_in (Some o)) k.keys);
       once = ap (λ rows. first_repeat (row_keys rows)) (same_layer o).rows ∙ ap first_repeat (laid_keys (rows_in (Some o))) ∙ k.once;

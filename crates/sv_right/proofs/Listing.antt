@@ -35,21 +35,26 @@ use Rattle.sv_view.specs.Level.{View}
 
 -- the rows to come are those of the list on a view, each under its key, and no key stands twice
 pub record IsListed (p : Program) (h : Head) (v : View) (x : Listing) : Type 0 where
-  pub items : map (λ e. e.item) x.entries ≡ fresh.items_in (value_at p v h.list)
+  pub items : option_and_then items_in (value_at p v h.list) ≡ Some (map (λ e. e.item) x.entries)
   pub keys : Along (λ (e : Entry) i. key_at p h x.number v i e.item ≡ Some e.key) 0 x.entries
   pub once : first_repeat (keys_of x.entries) ≡ None
 
 -- the items of a value
-listed_items : (v : Val) (vs : List Val) → items_in v ≡ Some vs → fresh.items_in (Some v) ≡ vs
-listed_items undefined vs e = absurd (cc)
-listed_items null vs e = absurd (cc)
-listed_items (boolean b) vs e = absurd (cc)
-listed_items (number n) vs e = absurd (cc)
-listed_items (text t) vs e = absurd (cc)
-listed_items (list xs) vs e = some_same e
-listed_items (object fs) vs e = absurd (cc)
-listed_items (function c o xs) vs e = absurd (cc)
-listed_items (store s) vs e = absurd (cc)
+item_list : (v : Val) (vs : List Val) → items_in v ≡ Some vs → fresh.items_in (Some v) ≡ vs
+item_list undefined vs e = absurd (cc)
+item_list null vs e = absurd (cc)
+item_list (boolean b) vs e = absurd (cc)
+item_list (number n) vs e = absurd (cc)
+item_list (text t) vs e = absurd (cc)
+item_list (list xs) vs e = some_same e
+item_list (object fs) vs e = absurd (cc)
+item_list (function c o xs) vs e = absurd (cc)
+item_list (store s) vs e = absurd (cc)
+
+-- those of a part, where its value is a list
+pub listed_items : (o : Option Val) (vs : List Val) → option_and_then items_in o ≡ Some vs → fresh.items_in o ≡ vs
+listed_items None vs e = absurd (cc)
+listed_items (Some v) vs e = item_list v vs e
 
 items_after : (part : Part) (o : Option (List Val)) (s : State) → After (items_or part o s) (λ vs u. (o ≡ Some vs) × Grows s u)
 items_after part None s = tt
@@ -128,7 +133,7 @@ pub record Lists (p : Program) (h : Head) (at : Sides) (old : Option ℕ) (rows 
   pub below : x.number < u.counters.next
   pub grows : Grows s u
 
-listing_after : (p : Program) (h : Head) (at : Sides) (old : Option ℕ) (rows : List Row) (vs : List Val) (s : State) → fresh.items_in (value_at p at.new h.list) ≡ vs →
+listing_after : (p : Program) (h : Head) (at : Sides) (old : Option ℕ) (rows : List Row) (vs : List Val) (s : State) → option_and_then items_in (value_at p at.new h.list) ≡ Some vs →
     After (listing_of p h at vs s) (Lists p h at old rows s)
 listing_after p h at old rows vs s is =
     then_after (spent (length vs) s) (λ _ s1. andThen (numbered s1) (λ n s2. andThen (entries_step p h at n vs s2) (λ entries s3. andThen (once h.key entries s3) (λ _ s4. Ok (record { number = n; entries = entries }, s4)))))
@@ -140,7 +145,7 @@ listing_after p h at old rows vs s is =
     (λ entries s3 g3. then_after (once h.key entries s3) (λ _ s4. Ok (record { number = n; entries = entries }, s4)) (λ _ s4. (first_repeat (keys_of entries) ≡ None) × Grows s3 s4) (Lists p h at old rows s)
     (once_after h.key entries s3 (λ none. counted_once (keys_of entries) (number_keys p h n at.new 0 entries none (entry_keys p h n at.new 0 vs entries g3.0))))
     (λ _ s4 g4. record {
-      listed = record { items = entry_items p h n at.new 0 vs entries g3.0 ∙ sym is; keys = entry_keys p h n at.new 0 vs entries g3.0; once = g4.0 };
+      listed = record { items = is ∙ ap Some (sym (entry_items p h n at.new 0 vs entries g3.0)); keys = entry_keys p h n at.new 0 vs entries g3.0; once = g4.0 };
       numbered = inl (omega (arith, g1, g2.0));
       below = omega (arith, g2.1, g3.1, g4.1);
       grows = omega (arith, g1, g2.0, g2.1, g3.1, g4.1);
@@ -157,7 +162,7 @@ enumerated_after : (p : Program) (h : Head) (at : Sides) (old : Option ℕ) (row
 enumerated_after p h at old rows s =
     then_after (evaluated p h.list at s) (λ v u. andThen (items_or h.list (items_in v) u) (listing_of p h at)) (Valued p h.list at.new s) (Lists p h at old rows s) (evaluated_after p h.list at s)
     (λ x v e. then_after (items_or h.list (items_in x) v) (listing_of p h at) (λ vs u. (items_in x ≡ Some vs) × Grows v u) (Lists p h at old rows s) (items_after h.list (items_in x) v)
-    (λ vs u q. more_after (listing_of p h at vs u) (Lists p h at old rows u) (Lists p h at old rows s) (listing_after p h at old rows vs u (ap fresh.items_in e.0 ∙ listed_items x vs q.0))
+    (λ vs u q. more_after (listing_of p h at vs u) (Lists p h at old rows u) (Lists p h at old rows s) (listing_after p h at old rows vs u (ap (option_and_then items_in) e.0 ∙ q.0))
     (λ y w l. lists_on p h at old rows s u y w (grows_on s v u e.1 q.1) l)))
 
 anew_after : (p : Program) (h : Head) (at : Sides) (old : Option ℕ) (rows : List Row) (none : List Shape) (s : State) → After (listed_anew p h at rows none s) (Lists p h at old rows s)
@@ -170,7 +175,7 @@ anew_after p h at old rows none s =
 -- what is known of the rows of a list with a number
 pub record WereRows (p : Program) (h : Head) (at : Sides) (n k : ℕ) (rows : List Row) : Type 0 where
   pub versions : AreVersions at.old at.new
-  pub items : row_items rows ≡ fresh.items_in (value_at p at.old h.list)
+  pub items : option_and_then items_in (value_at p at.old h.list) ≡ Some (row_items rows)
   pub keys : (i : ℕ) (row : Row) → slice_get rows i ≡ Some row → key_at p h n at.old i row.item ≡ Some row.key
   pub once : first_repeat (row_keys rows) ≡ None
   pub below : n < k
@@ -193,7 +198,7 @@ rows_stay : (p : Program) (h : Head) (at : Sides) (n : ℕ) (rows : List Row) (s
     Lists p h at (Some n) rows s (record { number = n; entries = map entry_of rows }) s
 rows_stay p h at n rows s fits were still = record {
   listed = record {
-    items = items_again rows ∙ were.items ∙ ap fresh.items_in (still_value p h.list at fits.list were.versions still);
+    items = sym (ap (option_and_then items_in) (still_value p h.list at fits.list were.versions still)) ∙ were.items ∙ ap Some (sym (items_again rows));
     keys = along_map (λ (e : Entry) i. key_at p h n at.new i e.item ≡ Some e.key) entry_of 0 rows
         (along_get (λ (row : Row) i. key_at p h n at.new i row.item ≡ Some row.key) rows
         (λ i row e. sym (still_key p h h.key n i row.item at fits.seen fits.key were.versions still) ∙ were.keys i row e));

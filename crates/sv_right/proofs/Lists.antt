@@ -1,6 +1,7 @@
 -- Steps for the items of a list in turn.
 use Rattle.std.proofs.Common.{◌≡◌, ℕ, zero, suc, ◌≤◌, List, [], ◌∷◌, map, length, Option, Some, None, refl, ap, ap₂, subst}
 use Rattle.std.specs.Prelude.{slice_get}
+use Rattle.sv_code.specs.Names.{Each}
 use Rattle.sv_parts.specs.State.{Run, each, one}
 use Rattle.sv_parts.specs.declared.state.State.{State}
 use Rattle.sv_right.proofs.Steps.{After, cons_after, more_after, Grows, grows_same, grows_on}
@@ -77,6 +78,13 @@ matched_map f i [] [] h = refl
 matched_map f i [] (y ∷ ys) h = absurd h
 matched_map f i (x ∷ xs) [] h = absurd h
 matched_map {B = B} f i (x ∷ xs) (y ∷ ys) h = ap₂ (λ (z : B) zs. z ∷ zs) h.0 (matched_map f (suc i) xs ys h.1)
+
+-- what holds of each item, whatever stands at its place
+pub matched_each : {A B : Type 0} (Q : A → Type 0) (i : ℕ) (xs : List A) (ys : List B) → Matched (λ x j y. Q x) i xs ys → Each Q xs
+matched_each Q i [] [] h = tt
+matched_each Q i [] (y ∷ ys) h = tt
+matched_each Q i (x ∷ xs) [] h = absurd h
+matched_each Q i (x ∷ xs) (y ∷ ys) h = (h.0, matched_each Q (suc i) xs ys h.1)
 
 pub matched_length : {A B : Type 0} (R : A → ℕ → B → Type 0) (i : ℕ) (xs : List A) (ys : List B) → Matched R i xs ys → length ys ≡ length xs
 matched_length R i [] [] h = refl

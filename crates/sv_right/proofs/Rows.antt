@@ -157,7 +157,7 @@ rows_true : (p : Program) (start : Start) (h : Head) (claims : Walker) (v : View
     AreRowsTrue p h v (Some (Shape-F.Each x.number rows none))
 rows_true p start h claims v k x rows none listed are idle = record {
   is = tt;
-  items = matched_same (λ (e : Entry). e.item) (λ (row : Row). row.item) 0 x.entries rows (matched_mono (IsRow p start h claims x.number v k) (λ e i row. row.item ≡ e.item) (λ e i row r. r.item) 0 x.entries rows are) ∙ listed.items;
+  items = listed.items ∙ ap Some (sym (matched_same (λ (e : Entry). e.item) (λ (row : Row). row.item) 0 x.entries rows (matched_mono (IsRow p start h claims x.number v k) (λ e i row. row.item ≡ e.item) (λ e i row r. r.item) 0 x.entries rows are)));
   keys = λ i row e. along_at (λ (r : Row) j. key_at p h x.number v j r.item ≡ Some r.key) rows i row (rows_keyed p start h claims x.number v k 0 x.entries rows are listed.keys) e;
   once = ap first_repeat (matched_same (λ (e : Entry). e.key) (λ (row : Row). row.key) 0 x.entries rows (matched_mono (IsRow p start h claims x.number v k) (λ e i row. row.key ≡ e.key) (λ e i row r. r.key) 0 x.entries rows are)) ∙ listed.once;
   idle = idle;

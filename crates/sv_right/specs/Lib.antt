@@ -1,4 +1,5 @@
 pub mod Claims
+pub mod Succeeds
 pub mod Right
 pub mod Later
 pub mod Given

@@ -1,5 +1,5 @@
--- When shapes are right: what they hold is what an evaluation on the view gives.
-use Rattle.std.specs.Prelude.{◌≡◌, ℕ, nat_eq, pos, List, [], ◌∷◌, Option, Some, None, option_map, unwrap_or, map, length, slice_get, if◌then◌else◌}
+-- When shapes are right: what they hold is what an evaluation on the view gives, and no part of it faults there.
+use Rattle.std.specs.Prelude.{◌≡◌, ℕ, true, nat_eq, pos, List, [], ◌∷◌, Option, Some, None, option_map, unwrap_or, map, length, slice_get, if◌then◌else◌}
 use Rattle.std.specs.Option.{option_and_then}
 use Rattle.sv_attributes.specs.Values.{alone}
 use Rattle.sv_base.specs.declared.names.Name.{Name}
@@ -13,16 +13,17 @@ use Rattle.sv_code.specs.declared.fragments.FragValuePart.{FragValuePart}
 use Rattle.sv_code.specs.declared.parts.Part.{Part}
 use Rattle.sv_code.specs.declared.program.Program.{Program}
 use Rattle.sv_code.specs.declared.tags.Tag.{Tag}
-use Rattle.sv_fresh.specs.Blocks.{choose, items_in}
+use Rattle.sv_fresh.specs.Blocks.{choose}
 use Rattle.sv_fresh.specs.Slots.{prop_of}
 use Rattle.sv_fresh.specs.Sources.{row_items}
 use Rattle.sv_fresh.specs.States.{states}
 use Rattle.sv_fresh.specs.Values.{value_at, text_at, texts_at}
 use Rattle.sv_keyed.specs.Keys.{first_repeat}
 use Rattle.sv_parts.specs.Tags.{passed_name}
-use Rattle.sv_plan.specs.Lists.{Head, row_view, row_keys}
+use Rattle.sv_plan.specs.Lists.{Head, row_view, row_keys, items_in}
 use Rattle.sv_plan.specs.Slots.{prop_named}
 use Rattle.sv_right.specs.Claims.{Claim, OfCount, OfLiteral, OfText, OfElement, OfTag, OfSlot, OfIf, OfEach, OfKey, claims}
+use Rattle.sv_right.specs.Succeeds.{Succeeds, tests_succeed}
 use Rattle.sv_shapes.specs.Shapes.{Opened, text_in, element_in, states_in, texts_in, place_in, props_in, arm_in, list_in, rows_in, key_in, parts_in}
 use Rattle.sv_shapes.specs.declared.shape.Row.{Row}
 use Rattle.sv_shapes.specs.declared.shape.Shape.{Shape, Shape-F}
@@ -104,10 +105,10 @@ abbrev pub IsNoneIdle : List Row → List Shape → Type 0
 IsNoneIdle [] parts = Unit {0}
 IsNoneIdle (row ∷ rows) parts = parts ≡ []
 
--- the rows are those of the list, each under its key, and no key stands twice
+-- the value is a list, the rows are those of it, each under its key, and no key stands twice
 pub record AreRowsTrue (p : Program) (h : Head) (v : View) (held : Opened) : Type 0 where
   pub is : IsThere (list_in held)
-  pub items : row_items (rows_in held) ≡ items_in (value_at p v h.list)
+  pub items : option_and_then items_in (value_at p v h.list) ≡ Some (row_items (rows_in held))
   pub keys : (i : ℕ) (row : Row) → slice_get (rows_in held) i ≡ Some row → key_at p h (unwrap_or (list_in held) 0) v i row.item ≡ Some row.key
   pub once : first_repeat (row_keys (rows_in held)) ≡ None
   pub idle : IsNoneIdle (rows_in held) (parts_in held)
@@ -116,10 +117,10 @@ abbrev pub IsTrue : Program → Claim → Type 0
 IsTrue p (OfCount count shapes) = length shapes ≡ count
 IsTrue p (OfLiteral held) = IsThere (literal_in held)
 IsTrue p (OfText part v held) = IsThere (text_in held) × (text_in held ≡ text_at p v part)
-IsTrue p (OfElement attrs v held) = IsThere (element_in held) × (states_in held ≡ states p v attrs)
+IsTrue p (OfElement attrs v held) = (IsThere (element_in held) × Each (Succeeds p v) attrs) × (states_in held ≡ states p v attrs)
 IsTrue p (OfTag tags tag v held) = IsTagTrue p v (slice_get p.tags tag) held
 IsTrue p (OfSlot attrs v held) = IsThere (slot_in held) × ((name : Name) → IsProp p v (first_passing name attrs) (prop_named name (props_in held)))
-IsTrue p (OfIf tests v held) = arm_in held ≡ Some (choose p v tests 0)
+IsTrue p (OfIf tests v held) = (tests_succeed p v tests ≡ true) × (arm_in held ≡ Some (choose p v tests 0))
 IsTrue p (OfEach h v held) = AreRowsTrue p h v held
 IsTrue p (OfKey part v held) = IsThere (key_in held) × (option_map (λ k. k.value) (key_in held) ≡ value_at p v part)
 
