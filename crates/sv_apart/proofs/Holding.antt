@@ -316,8 +316,7 @@ module _ (table : Table) (files : List SourceFile) (c : Component) (cells : List
     names = λ cell e.
         let h = held d.name it.k it.is it.own in
         let is_cell : known_in top.known (Store d.name) ≡ Some (known.Cell cell) =
-        known-cell (known_in top.known (Store d.name)) (Store d.name) cell (store-cell (known_at top [] (Plain d.name)) (known_at top [] (Store d.name)) cell (sym code.store ∙ e)) in
-        (
+        known-cell (known_in top.known (Store d.name)) (Store d.name) cell (store-cell (known_at top [] (Plain d.name)) (known_at top [] (Store d.name)) cell (sym code.store ∙ e)) in (
           record { cell = cell; holder = h.g.known; span = h.g.named.span },
           (store-there all 0 cells cell cell d.name h.g (omega arith) (stands-for (Store d.name) (known.Cell cell) is_cell) h.found, (refl, target ∙ sym h.is)),
         );
@@ -346,8 +345,7 @@ module _ (table : Table) (files : List SourceFile) (c : Component) (cells : List
   differs x d code told (y ∷ xs) [] pairs all_told_of other = absurd pairs
   differs x d code told (y ∷ xs) (e ∷ ds) pairs all_told_of other =
       let one = target-named x d code told in
-      let two = target-named y e pairs.0 all_told_of.0 in
-      (
+      let two = target-named y e pairs.0 all_told_of.0 in (
         λ same. other.0 (ap name_of (one_name cells (all_constants c.script.stmts) (Plain d.name) (Plain e.name) x.target one.0 one.1 (subst (λ (k : Known). IsNamed (Plain e.name) k) (sym same) two.1))),
         differs x d code told xs ds pairs.1 all_told_of.1 other.1,
       )

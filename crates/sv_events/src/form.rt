@@ -105,11 +105,7 @@ fn has_keys(version: Version, value: &Value, event: &Event) -> bool
 }
 
 /// The event that a value is; `None` exactly where it has not the form of one.
-pub fn event_of(
-    alloc: Global,
-    version: Version,
-    value: &Value,
-) -> Result<Option<Event>, NoMemory>
+pub fn event_of(alloc: Global, version: Version, value: &Value) -> Result<Option<Event>, NoMemory>
     ensures { IfOk result (λ event. event ≡ spec.event_of version (view value.now)) }
 {
     let Some(event) = parts_of(alloc, value)? else {

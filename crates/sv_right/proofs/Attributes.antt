@@ -62,8 +62,8 @@ shown_part : (p : Program) (name : Name) (part : Part) (held : Option AttrState)
 shown_part p name part held at s fits was =
     renewed_after part (shown_anew p name part at) held at s (Comes (shown_at p at.new name part) (part_succeeds p at.new name part) s) (shown_after p name part at s)
     (λ st is still.
-        let same = still_value p part at fits (was st is).0 still in
-        (((was st is).1.0 ∙ ap (shows_of p name) same, sym (ap (can_show (is_boolean p name)) same) ∙ (was st is).1.1), grows_same s))
+    let same = still_value p part at fits (was st is).0 still in
+    (((was st is).1.0 ∙ ap (shows_of p name) same, sym (ap (can_show (is_boolean p name)) same) ∙ (was st is).1.1), grows_same s))
 
 class_after : (p : Program) (part : Part) (held : Option AttrState) (at : Sides) (s : State) → IsWithin p part → Came (state.Holds (holds_at p at.old part)) (is_some (value_at p at.old part)) at held →
     After (class_step p part held at s) (Comes (state.Holds (holds_at p at.new part)) (is_some (value_at p at.new part)) s)
@@ -72,8 +72,8 @@ class_after p part held at s fits was =
     (then_after (evaluated p part at s) (λ x u. Ok (state.Holds (truthy x), u)) (Valued p part at.new s) (Comes (state.Holds (holds_at p at.new part)) (is_some (value_at p at.new part)) s) (evaluated_after p part at s)
     (λ x v e. ((ap (λ o. state.Holds (is_truthy o)) (sym e.0), ap is_some e.0), e.1)))
     (λ st is still.
-        let same = still_value p part at fits (was st is).0 still in
-        (((was st is).1.0 ∙ ap (λ o. state.Holds (is_truthy o)) same, sym (ap is_some same) ∙ (was st is).1.1), grows_same s))
+    let same = still_value p part at fits (was st is).0 still in
+    (((was st is).1.0 ∙ ap (λ o. state.Holds (is_truthy o)) same, sym (ap is_some same) ∙ (was st is).1.1), grows_same s))
 
 -- ---- joined texts
 
