@@ -9,7 +9,8 @@ use std::str;
 use sv_base::NoMemory;
 use sv_commit::{Screen, blank, show};
 use sv_dom::print;
-use sv_live::{Lives, Siblings};
+use sv_list::Items;
+use sv_live::Lives;
 use sv_rows::push_part;
 
 /// The changes that are told of the second step, with `, ` between, or `none`.
@@ -36,7 +37,7 @@ pub fn page(alloc: Global, row: &str) -> Result<String, NoMemory> {
 fn brought(alloc: Global, row: &str) -> Result<(Screen, usize), NoMemory> {
     let (from, to) = row.split_once(" > ").unwrap_or((row, ""));
     let mut screen = blank(alloc)?;
-    let first = step(alloc, &mut screen, Siblings::new(alloc), from)?;
+    let first = step(alloc, &mut screen, Items::new(alloc), from)?;
     let had = screen.told().len();
     let second = step(alloc, &mut screen, first, to)?;
     drop(second);

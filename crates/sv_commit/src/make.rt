@@ -7,7 +7,8 @@ ghost use Rattle.sv_live.specs.Stands.{Stands, Becomes};
 use crate::screen::Screen;
 use crate::spot::Spot;
 use sv_base::{NoMemory, Text};
-use sv_live::{Lives, Named, Own, Siblings, Walk};
+use sv_list::Items;
+use sv_live::{Lives, Named, Own, Walk};
 
 /// An element as it stands.
 #[derive(Drop)]
@@ -58,7 +59,7 @@ pub(crate) fn make_element(
     Ok(Standing {
         named,
         own,
-        parts: Siblings::new(screen.alloc()),
+        parts: Items::new(screen.alloc()),
     })
 }
 
@@ -76,6 +77,6 @@ pub(crate) fn make_hole(
     let anchor = screen.make_anchor(spot.above.key, walk.cursor(spot.end))?;
     Ok(StandingHole {
         anchor,
-        parts: Siblings::new(screen.alloc()),
+        parts: Items::new(screen.alloc()),
     })
 }

@@ -35,6 +35,20 @@ impl<T> Items<T> {
         }
     }
 
+    /// The list of what a buffer holds.
+    pub fn from_vec(buffer: Vec<T>) -> Items<T>
+        ensures { result ≡ buffer.items }
+    {
+        Items { buffer }
+    }
+
+    /// The buffer that holds its items.
+    pub fn into_vec(self) -> Vec<T>
+        ensures { result.items ≡ self }
+    {
+        self.buffer
+    }
+
     /// How many items it has.
     pub fn len(&self) -> usize
         ensures { result ≡ length self.now }

@@ -25,7 +25,8 @@ pub record IsSole (l : Live) (lives : List Live) : Type 0 where
   pub ahead : times (answers (number l)) front ≡ 0
   pub behind : times (answers (number l)) back ≡ 0
 
--- What is shown follows what was known there by its number. A text stands in the node of that text. An element stands in the node of that element, if it had this name, and so it is with all that is inside it. A child component stands where it stood, with all that it shows.
+-- What is shown follows what was known there by its number. A text stands in the node of that text. An element stands in the node of that element, if
+-- it had this name, and so it is with all that is inside it. A child component stands where it stood, with all that it shows.
 pub data IsKept : (next : ℕ) (was : Option Live) (now : Live) → Type 0 where
   kept_text : (next : ℕ) (was : Option Live) (mark : ℕ) (n : Named) (text : List ℕ) → IsNamed next (text_node was) n → IsKept next was (live.Text mark n text)
   kept_element : (next : ℕ) (was : Option Live) (n : Named) (own : Own) (parts : List Live) → IsNamed next (element_node own.name was) n

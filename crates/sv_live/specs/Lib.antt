@@ -1,4 +1,3 @@
-pub mod formers
 pub mod Attributes
 pub mod Shown
 pub mod Known

@@ -25,7 +25,8 @@ pub record Takes (old new : List Live) (live : Live) (last : Bool) : Type 0 wher
 abbrev pub KeepsOthers : (n : ℕ) (old new : List Live) → Type 0
 KeepsOthers n old new = (k : ℕ) → k ≢ n → known k new ≡ known k old
 
--- Some were placed before the others, and each of them, where it is the only one with its number, follows what was to be placed with that number. What is to be placed with other numbers is as it was.
+-- Some were placed before the others, and each of them, where it is the only one with its number, follows what was to be placed with that number. What is
+-- to be placed with other numbers is as it was.
 pub record Places (next : ℕ) (old new : Walk) : Type 0 where
   pub added : List Live
   pub placed : new.placed ≡ added ++ old.placed

@@ -4,11 +4,9 @@
 mod attributes;
 mod live;
 mod node;
-mod siblings;
 mod walk;
 
 pub use attributes::Attributes;
 pub use live::{Live, Lives, Named, by_mark, by_place};
 pub use node::{Node, Nodes, Own, share_typed};
-pub use siblings::Siblings;
 pub use walk::{Taken, Walk};

@@ -4,8 +4,8 @@ ghost use Rattle.sv_live.specs.Shown as shown;
 ghost use Rattle.sv_live.specs.Known as known;
 
 use crate::node::Own;
-use crate::siblings::Siblings;
 use sv_base::Text;
+use sv_list::Items;
 
 /// A node of the page: its key, and its serial number.
 #[derive(Clone, Copy, Debug, PartialEq, Eq)]
@@ -15,7 +15,7 @@ pub struct Named {
 }
 
 /// What is shown in one place, in order.
-pub type Lives = Siblings<Live>;
+pub type Lives = Items<Live>;
 
 /// What is shown, with the nodes of the page.
 #[derive(Drop)]

@@ -5,11 +5,11 @@ ghost use Rattle.sv_live.specs.Stands.{cursor};
 ghost use Rattle.sv_live.specs.Walk.{Takes, KeepsOthers, slot, has_number};
 
 use crate::live::{Live, Lives};
-use crate::siblings::Siblings;
 use std::alloc::Global;
 use std::collections::BTreeMap;
 use std::marker::Model;
 use sv_base::NoMemory;
+use sv_list::Items;
 
 /// One that was taken out, and whether it was the last that was to be placed.
 #[derive(Drop)]
@@ -154,7 +154,7 @@ impl Walk {
         drop(left);
         drop(slots);
         done.reverse();
-        Siblings::from_vec(done)
+        Items::from_vec(done)
     }
 }
 
