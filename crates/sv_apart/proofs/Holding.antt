@@ -43,7 +43,8 @@ use Rattle.sv_subscribed.specs.Apart.{HoldApart, IsOwn, IsTold, AreOnce, declare
 use Rattle.sv_subscribed.specs.Holders.{IsAmong}
 use Rattle.sv_apart.proofs.Declares.{declares, told_layer, told_of, all_told, all_formed, told-thinned, declared_in, formed-thinned, name_in, IsFixed, GivenIsFixed, givens-fixed, IsVariable, variable-of, variable-not-given, variable-has}
 use Rattle.sv_apart.proofs.Lowered.{IsCodeOf, script-lowered}
-use Rattle.sv_apart.proofs.Names.{Given, either, IsNameOf, one_name, IsForeign, not_own, GivenIsNamed, givens-named, built-foreign, Others, stands, cell-known, other-known, same_sym, given-known, constant-known}
+use Rattle.sv_apart.proofs.Names.{Given, one_name, not_own, cell-known, other-known, same_sym, given-known, constant-known}
+use Rattle.sv_compile.proofs.Topmost.{either, IsNameOf, IsForeign, GivenIsNamed, givens-named, built-foreign, Others, stands}
 use Rattle.sv_apart.proofs.Places.{has-at, plain-store, store-place, plain-cell, variable-cell, IsStoreOf, stores-of, store-there, holder-name, holder-each, holder-front, holder-behind}
 use Rattle.sv_apart.proofs.Thinning.{IsThinned, each-thinned, each-among, each-all, AreToldApart, apart-thinned, ArePaired, each-paired}
 
