@@ -1,5 +1,3 @@
 pub mod Turns
 pub mod Run
-pub mod Errors
-pub mod Plays
 pub mod Current

@@ -1,11 +1,8 @@
-//! Sessions: a page from its mounting on, through the events that come to it.
+//! Turns of a page: its mounting, and what each event that comes to it does.
 #![tactic(auto)]
 
 mod laws;
-mod session;
-mod stage;
 mod turns;
 
 pub use laws::{events_leave_stores_computed, turns_leave_current_pages};
-pub use session::Session;
-pub use stage::{Stage, TurnError, Turned};
+pub use turns::{first_turn, next_turn};

@@ -11,15 +11,18 @@ use Rattle.sv_flush.specs.Page.{blank}
 use Rattle.sv_flush.specs.declared.page.Page.{Page}
 use Rattle.sv_io.proofs.Written.{with_bytes-twice, with_bytes-none}
 use Rattle.sv_io.specs.Sink.{with_bytes, AppendsFront}
-use Rattle.sv_page.specs.Plays.{IsShown, Plays, PlaysBody, Turns, TurnsAt, program_of}
 use Rattle.sv_page.specs.Run.{followed, turns, run}
 use Rattle.sv_page.specs.Turns.{first_turn, next_turn, nodes_of}
-use Rattle.sv_page.specs.declared.session.Session.{Session}
-use Rattle.sv_page.specs.declared.stage.TurnError.{TurnError}
-use Rattle.sv_page.specs.declared.stage.Turned.{Turned}
 use Rattle.sv_play.specs.Run.{printed, page_text, turn_text, turn_texts, renumbered, is_refused}
 use Rattle.sv_play.specs.Session.{counted, shown}
 use Rattle.sv_play.specs.declared.flags.Flags.{Flags}
+use Rattle.sv_session.specs.Plays.{IsShown, Plays, PlaysBody, Turns, TurnsAt, program_of}
+use Rattle.sv_session.specs.Ready.{IsReady, StandsAt}
+use Rattle.sv_session.specs.declared.session.Session.{Session}
+use Rattle.sv_session.specs.declared.stage.Stage.{Stage}
+use Rattle.sv_session.specs.declared.stage.Stage.TheVariants.{New, Running, Stopped}
+use Rattle.sv_session.specs.declared.stage.TurnError.{TurnError}
+use Rattle.sv_session.specs.declared.stage.Turned.{Turned}
 
 -- ---- sessions
 
@@ -51,9 +54,18 @@ program-printed : (flags : Flags) (answer : Result Turned TurnError) (s : Sessio
 program-printed flags (Ok turned) s = refl
 program-printed flags (Err e) s = refl
 
+stands-counted : (flags : Flags) (s : Session) (stage : Stage) → StandsAt stage s → StandsAt stage (counted flags s)
+stands-counted flags s New is = is
+stands-counted flags s Running is = record { reached = is.reached; shown = is.shown; apart = is.apart }
+stands-counted flags s Stopped is = tt
+
 shown-printed : (flags : Flags) (answer : Result Turned TurnError) (s : Session) → IsShown s → IsShown (shown flags answer s)
 shown-printed flags (Ok turned) s is = record { shown = is.shown; running = is.running }
 shown-printed flags (Err e) s is = is
+
+pub ready-printed : (flags : Flags) (answer : Result Turned TurnError) (s : Session) → IsReady s → IsReady (shown flags answer s)
+ready-printed flags (Ok turned) s is = record { runnable = is.runnable; stands = stands-counted flags s s.stage is.stands }
+ready-printed flags (Err e) s is = is
 
 numbers-printed : (flags : Flags) (answer : Result Turned TurnError) (s : Session) → is_err answer ≡ false → (shown flags answer s).numbers ≡ renumbered flags s.nodes s.numbers
 numbers-printed flags (Ok turned) s ok = refl

@@ -5,17 +5,17 @@ use Rattle.sv_events.specs.declared.event.Event.{Event}
 use Rattle.sv_flush.specs.Outcome.{Outcome}
 use Rattle.sv_flush.specs.Page.{blank}
 use Rattle.sv_flush.specs.declared.page.Page.{Page}
-use Rattle.sv_page.specs.Plays.{IsShown, Plays, PlaysBody, program_of}
 use Rattle.sv_page.specs.Run.{followed, turns, run}
 use Rattle.sv_page.specs.Turns.{first_turn}
-use Rattle.sv_page.specs.declared.session.Session.{Session}
-use Rattle.sv_page.specs.declared.stage.TurnError.{TurnError}
-use Rattle.sv_page.specs.declared.stage.TurnError.TheVariants as error
-use Rattle.sv_page.specs.declared.stage.Turned.{Turned}
 use Rattle.sv_parts.specs.declared.refusal.Refusal.{Refusal}
 use Rattle.sv_play.specs.Summary.{sums_after, sums}
 use Rattle.sv_play.specs.Sums.{SumsTo}
 use Rattle.sv_play.specs.declared.summary.Sums.{Sums}
+use Rattle.sv_session.specs.Plays.{IsShown, Plays, PlaysBody, program_of}
+use Rattle.sv_session.specs.declared.session.Session.{Session}
+use Rattle.sv_session.specs.declared.stage.TurnError.{TurnError}
+use Rattle.sv_session.specs.declared.stage.TurnError.TheVariants as error
+use Rattle.sv_session.specs.declared.stage.Turned.{Turned}
 
 -- a turn among those of a run
 module _ (p : Program) (evaluations : ℕ) (m : Page) (o : Outcome Bool) (more : Page → List (Outcome Bool)) (whole : Result Sums Refusal)

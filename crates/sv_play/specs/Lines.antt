@@ -1,6 +1,6 @@
 -- The lines of a turn.
 use Rattle.std.specs.Prelude.{ℕ, List, [], ◌∷◌, ◌++◌, Bool, codes, decimal, flat_map, if◌then◌else◌}
-use Rattle.sv_page.specs.declared.stage.Turned.{Turned}
+use Rattle.sv_session.specs.declared.stage.Turned.{Turned}
 
 -- what is said of a turn whose event finds no target
 abbrev pub note : Bool → List ℕ

@@ -8,12 +8,12 @@ use Rattle.sv_document.specs.declared.tree.Node.{Node}
 use Rattle.sv_events.specs.declared.event.Event.{Event}
 use Rattle.sv_flush.specs.Outcome.{Outcome, Done, Halted}
 use Rattle.sv_flush.specs.declared.page.Page.{Page}
-use Rattle.sv_page.specs.Plays.{told, shown_numbers}
 use Rattle.sv_page.specs.Run.{run}
 use Rattle.sv_page.specs.Turns.{nodes_of}
 use Rattle.sv_play.specs.Lines.{turn_line, log_lines, tally_line}
 use Rattle.sv_play.specs.Refused.{refused_line}
 use Rattle.sv_play.specs.declared.flags.Flags.{Flags}
+use Rattle.sv_session.specs.Plays.{told, shown_numbers}
 
 -- what was printed, and whether the last turn was refused
 pub record Printed : Type 0 where

@@ -10,6 +10,6 @@ mod summary;
 mod turn;
 
 pub use flags::Flags;
-pub use refused::write_refused;
+pub use refused::{push_refused, write_refused};
 pub use run::play;
 pub use summary::summarize;

@@ -4,7 +4,7 @@ ghost use Rattle.sv_play.specs.Lines as spec;
 
 use std::alloc::Global;
 use sv_base::{NoMemory, Text};
-use sv_page::Turned;
+use sv_session::Turned;
 
 /// The line of a turn by its number; a turn without a target says so.
 #[tactic(auto, unfolding(crate::specs::Lines::turn_line))]

@@ -5,11 +5,12 @@ ghost use Rattle.sv_flush.specs.Outcome.{Outcome};
 ghost use Rattle.sv_flush.specs.Page.{blank};
 ghost use Rattle.sv_io.specs.Faults.{Rose};
 ghost use Rattle.sv_io.specs.Sink.{with_bytes, AppendsFront};
-ghost use Rattle.sv_page.specs.Plays.{PlaysBody, program_of};
-ghost use Rattle.sv_page.specs.declared.stage.Stage.TheVariants.{New};
-ghost use Rattle.sv_play.specs.Refused.{LinesAscend};
 ghost use Rattle.sv_play.specs.Run as spec;
 ghost use Rattle.sv_play.specs.Session.{shown};
+ghost use Rattle.sv_session.specs.Plays.{PlaysBody, program_of};
+ghost use Rattle.sv_session.specs.Ready.{IsReady};
+ghost use Rattle.sv_session.specs.declared.stage.Stage.TheVariants.{New};
+ghost use Rattle.sv_within.specs.Runnable.{IsRunnable};
 
 use crate::flags::Flags;
 use crate::turn::Printer;
@@ -17,7 +18,7 @@ use std::alloc::Global;
 use sv_code::Program;
 use sv_events::Event;
 use sv_io::{Sink, SinkError, write_all};
-use sv_page::{Session, TurnError, Turned};
+use sv_session::{Session, TurnError, Turned};
 
 /// Plays a program: mounts its page and lets each event come to it in turn, and prints each turn as it ends. Answers whether a turn was refused,
 /// which ends the run. What was written is the whole of the run, or a prefix of it where a write failed or memory runs out.
@@ -28,7 +29,7 @@ pub fn play<K: Sink>(
     flags: Flags,
     out: &mut K,
 ) -> Result<bool, SinkError>
-    requires lines { LinesAscend program.now }
+    requires { IsRunnable program.now }
     ensures status { IfOk result (λ refused. refused ≡ (spec.printed program.now flags events.now).refused) }
     ensures all { OnOk result (K.written out.new ≡ with_bytes (K.written out.old) (spec.printed program.now flags events.now).text) }
     ensures front { OnErr result (AppendsFront (K.written out.old) (K.written out.new) (spec.printed program.now flags events.now).text) }
@@ -47,10 +48,10 @@ fn play_turns<K: Sink>(
     events: &[Event],
     out: &mut K,
 ) -> Result<bool, SinkError>
-    requires lines { LinesAscend (program_of session.old) }
     requires page { session.old.page ≡ blank }
     requires stage { session.old.stage ≡ New }
     requires numbers { session.old.numbers ≡ unnumbered }
+    requires ready { IsReady session.old }
     ensures status { IfOk result (λ refused. refused ≡ (spec.printed (program_of session.old) printer.now.flags events.now).refused) }
     ensures all { OnOk result (K.written out.new ≡ with_bytes (K.written out.old) (spec.printed (program_of session.old) printer.now.flags events.now).text) }
     ensures front { OnErr result (AppendsFront (K.written out.old) (K.written out.new) (spec.printed (program_of session.old) printer.now.flags events.now).text) }
@@ -73,6 +74,7 @@ fn play_turns<K: Sink>(
 }
 
 // Prints a turn by its number, and answers whether it was refused.
+#[tactic(auto, using(crate::proofs::Ready::ready_lines))]
 fn print_turn<K: Sink>(
     printer: &Printer,
     session: &mut Session<'_>,
@@ -80,7 +82,7 @@ fn print_turn<K: Sink>(
     answer: Result<Turned, TurnError>,
     out: &mut K,
 ) -> Result<bool, SinkError>
-    requires lines { LinesAscend (program_of session.old) }
+    requires ready { IsReady session.old }
     requires played { (o : Outcome Bool) × PlaysBody answer session.old o }
     ensures ended { IfOk result (λ refused. refused ≡ is_err answer) }
     ensures status { IfOk result (λ refused. (o : Outcome Bool) → PlaysBody answer session.old o → refused ≡ spec.is_refused o) }

@@ -3,11 +3,12 @@ ghost use Rattle.std.specs.Prelude.{◌≡◌, ◌≤◌, ◌+◌, Err, IfOk, On
 ghost use Rattle.sv_flush.specs.Page.{blank};
 ghost use Rattle.sv_io.specs.Faults.{Rose};
 ghost use Rattle.sv_io.specs.Sink.{with_bytes, AppendsFront};
-ghost use Rattle.sv_page.specs.Plays.{program_of};
-ghost use Rattle.sv_page.specs.declared.stage.Stage.TheVariants.{New};
-ghost use Rattle.sv_play.specs.Refused.{LinesAscend};
 ghost use Rattle.sv_play.specs.Summary as spec;
 ghost use Rattle.sv_play.specs.Sums.{SumsTo};
+ghost use Rattle.sv_session.specs.Plays.{program_of};
+ghost use Rattle.sv_session.specs.Ready.{IsReady};
+ghost use Rattle.sv_session.specs.declared.stage.Stage.TheVariants.{New};
+ghost use Rattle.sv_within.specs.Runnable.{IsRunnable};
 
 use crate::lines::summary_line;
 use crate::refused::write_refused;
@@ -16,7 +17,7 @@ use sv_base::NoMemory;
 use sv_code::Program;
 use sv_events::Event;
 use sv_io::{Sink, SinkError, write_all};
-use sv_page::{Session, TurnError, Turned};
+use sv_session::{Session, TurnError, Turned};
 
 /// What a run comes to: the expressions of markup that were evaluated in all its turns, and the bytes of its last page.
 #[derive(Clone, Copy, Debug, PartialEq, Eq)]
@@ -27,13 +28,14 @@ pub struct Sums {
 
 /// Plays a program as `play` does, and prints one line at its end: how many events came, and what the run came to; or why a turn was refused.
 /// Answers whether one was.
+#[tactic(auto, using(crate::proofs::Ready::runnable_lines))]
 pub fn summarize<K: Sink>(
     alloc: Global,
     program: &Program,
     events: &[Event],
     out: &mut K,
 ) -> Result<bool, SinkError>
-    requires lines { LinesAscend program.now }
+    requires { IsRunnable program.now }
     ensures status { IfOk result (λ refused. refused ≡ (spec.summary program.now events.now).refused) }
     ensures all { OnOk result (K.written out.new ≡ with_bytes (K.written out.old) (spec.summary program.now events.now).text) }
     ensures front { OnErr result (AppendsFront (K.written out.old) (K.written out.new) (spec.summary program.now events.now).text) }
@@ -57,6 +59,7 @@ pub fn summarize<K: Sink>(
 
 // What a run comes to, or its first refusal.
 fn sum_up(alloc: Global, program: &Program, events: &[Event]) -> Result<Sums, TurnError>
+    requires { IsRunnable program.now }
     ensures { SumsTo result (spec.sums program.now events.now) }
 {
     let mut session = Session::begin(alloc, program)?;
@@ -67,6 +70,7 @@ fn sum_up(alloc: Global, program: &Program, events: &[Event]) -> Result<Sums, Tu
 fn sum_turns(session: &mut Session<'_>, events: &[Event]) -> Result<Sums, TurnError>
     requires page { session.old.page ≡ blank }
     requires stage { session.old.stage ≡ New }
+    requires ready { IsReady session.old }
     ensures { SumsTo result (spec.sums (program_of session.old) events.now) }
 {
     let mut evaluations = match session.mount() {

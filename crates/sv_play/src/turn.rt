@@ -1,18 +1,18 @@
 // What is printed of a turn.
 ghost use Rattle.std.specs.Prelude.{◌≡◌, IfOk, OnOk, string_bytes};
 ghost use Rattle.sv_flush.specs.Outcome.{Halted};
-ghost use Rattle.sv_page.specs.Plays.{program_of, told};
 ghost use Rattle.sv_play.specs.Refused.{LinesAscend};
 ghost use Rattle.sv_play.specs.Run as spec;
 ghost use Rattle.sv_play.specs.Session.{counted};
+ghost use Rattle.sv_session.specs.Plays.{program_of, told};
 
 use crate::flags::Flags;
 use crate::lines::{push_log, tally_line, turn_line};
 use crate::refused::push_refused;
 use std::alloc::Global;
 use sv_base::NoMemory;
-use sv_page::{Session, Turned};
 use sv_parts::Refusal;
+use sv_session::{Session, Turned};
 
 /// How turns are printed.
 #[derive(Clone, Copy)]

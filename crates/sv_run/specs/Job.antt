@@ -1,7 +1,6 @@
 -- The answer that a job gives.
 use Rattle.std.specs.Prelude.{List, Result, Ok, Err, string_bytes, ⊤}
 use Rattle.sv_events.specs.declared.event.Event.{Event}
-use Rattle.sv_play.specs.Refused.{LinesAscend}
 use Rattle.sv_run.specs.Answer.{Answer, usage, missing, source, source_at, events, turns, sums, accepted, listed, rendered}
 use Rattle.sv_run.specs.declared.events.Loaded.{Loaded}
 use Rattle.sv_run.specs.declared.events.Loaded.TheVariants as loaded
@@ -9,6 +8,7 @@ use Rattle.sv_run.specs.declared.job.Job.{Job}
 use Rattle.sv_run.specs.declared.job.Job.TheVariants as jobs
 use Rattle.sv_run.specs.declared.job.Refusal.{Refusal}
 use Rattle.sv_run.specs.declared.job.Refusal.TheVariants as refusals
+use Rattle.sv_within.specs.Runnable.{IsRunnable}
 
 abbrev pub refusal_of : Refusal → Answer
 refusal_of refusals.Usage = usage
@@ -30,11 +30,11 @@ abbrev pub outcome_of : Loaded → Result (List Event) Answer
 outcome_of (loaded.Events list) = Ok list.items
 outcome_of (loaded.Refused refusal) = Err (refusal_of refusal)
 
--- the lines of what is played begin in order
+-- what is played is what `compile` promises
 abbrev pub IsPlayable : Job → Type 0
 IsPlayable (jobs.Refuse refusal) = ⊤
 IsPlayable jobs.Accept = ⊤
 IsPlayable (jobs.List text) = ⊤
-IsPlayable (jobs.Render program) = LinesAscend program
-IsPlayable (jobs.Play program list flags) = LinesAscend program
-IsPlayable (jobs.Sum program list) = LinesAscend program
+IsPlayable (jobs.Render program) = IsRunnable program
+IsPlayable (jobs.Play program list flags) = IsRunnable program
+IsPlayable (jobs.Sum program list) = IsRunnable program

@@ -3,9 +3,9 @@ ghost use Rattle.std.specs.Prelude.{◌≡◌, ◌≤◌, ℕ, List, IfOk, IfSom
 ghost use Rattle.sv_check.specs.Checked.{AreChecked};
 ghost use Rattle.sv_io.specs.Faults.{Rose};
 ghost use Rattle.sv_lines.specs.Lines.{LinesAscend};
-ghost use Rattle.sv_play.specs.Refused.{LinesAscend as CodeLinesAscend};
 ghost use Rattle.sv_run.specs.Answer.{Accepts, Compiles, IsPlayed};
 ghost use Rattle.sv_run.specs.Job.{answer_of, IsPlayable};
+ghost use Rattle.sv_within.specs.Runnable.{IsRunnable};
 
 use crate::events::{Loaded, load_events};
 use crate::job::Job;
@@ -72,12 +72,11 @@ fn under_events<F: Shelf>(
 }
 
 /// What a checked program is compiled to.
-#[tactic(auto, using(sv_code::proofs::Compiled::lines_ascend))]
 pub fn compiled(alloc: Global, checked: &Checked<'_>) -> Result<Program, NoMemory>
     requires checked { AreChecked checked.now.bundle.now checked.now.components }
     requires lines { LinesAscend checked.now.bundle.now.files }
     ensures compiles { IfOk result (Compiles checked.now.bundle.now) }
-    ensures ascend { IfOk result CodeLinesAscend }
+    ensures runnable { IfOk result IsRunnable }
 {
     compile(alloc, checked)
 }

@@ -2,9 +2,9 @@
 ghost use Rattle.std.specs.Prelude.{◌≡◌, ◌≤◌, Err, IfOk, OnOk, OnErr};
 ghost use Rattle.sv_io.specs.Faults.{Rose};
 ghost use Rattle.sv_io.specs.Sink.{with_bytes, AppendsFront};
-ghost use Rattle.sv_play.specs.Refused.{LinesAscend};
 ghost use Rattle.sv_ssr.specs.First as spec;
 ghost use Rattle.sv_ssr.specs.Renders.{Renders};
+ghost use Rattle.sv_within.specs.Runnable.{IsRunnable};
 
 use std::alloc::Global;
 use sv_code::Program;
@@ -18,12 +18,14 @@ use sv_play::write_refused;
 /// Prints the first page of a program and a line feed, as a server does: module files run, and the root is made with all below it; scripts, reactive
 /// statements and `beforeUpdate` callbacks run, `onMount` and `afterUpdate` callbacks don't. Where that meets a fault, a key that stands twice or the
 /// end of the budget, the line of the refusal is printed alone. Answers whether it was refused. What was written is the whole text, or a prefix of
-/// it where a write failed or memory runs out.
+/// it where a write failed or memory runs out. Where nobody waits for an update then, the page is the fresh page of the present states.
+#[tactic(auto, using(sv_play::proofs::Ready::runnable_lines, crate::proofs::Fresh::first_is_fresh))]
 pub fn render<K: Sink>(alloc: Global, program: &Program, out: &mut K) -> Result<bool, SinkError>
-    requires lines { LinesAscend program.now }
+    requires { IsRunnable program.now }
     ensures status { IfOk result (λ refused. refused ≡ (spec.first_page program.now).refused) }
     ensures all { OnOk result (K.written out.new ≡ with_bytes (K.written out.old) (spec.first_page program.now).text) }
     ensures front { OnErr result (AppendsFront (K.written out.old) (K.written out.new) (spec.first_page program.now).text) }
+    ensures fresh { spec.IsFreshWhereIdle program.now }
     ensures later { K.faults out.old ≤ K.faults out.new }
     ensures failed { result ≡ Err SinkError.Failed → Rose (K.faults out.old) (K.faults out.new) }
 {

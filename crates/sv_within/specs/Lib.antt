@@ -1,3 +1,4 @@
 pub mod Keys
+pub mod Runnable
 pub mod Slots
 pub mod Staying

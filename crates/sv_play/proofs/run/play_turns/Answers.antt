@@ -1,9 +1,10 @@
-use Rattle.std.proofs.Common.{◌+◌, refl, sym, ap, arith}
+use Rattle.std.proofs.Common.{◌+◌, refl, sym, ap, subst, arith}
 use Rattle.sv_io.proofs.Written.{on_err}
-use Rattle.sv_page.specs.Plays.{program_of}
-use Rattle.sv_page.proofs.Mounting.{mounts-new}
-use Rattle.sv_play.proofs.Playing.{first-is, first-fronts, first-refused, first-written, first-shown, first-same, first-printed, next-is, next-fronts, next-refused, next-written, next-shown, next-same, next-printed, all-text, all-refused}
+use Rattle.sv_play.proofs.Playing.{first-is, first-fronts, first-refused, first-written, first-shown, first-same, first-printed, next-is, next-fronts, next-refused, next-written, next-shown, next-same, next-printed, ready-printed, all-text, all-refused}
 use Rattle.sv_play.proofs.run.play_turns.Goals as goal
+use Rattle.sv_session.proofs.Mounting.{mounts-new}
+use Rattle.sv_session.specs.Plays.{program_of}
+use Rattle.sv_session.specs.Ready.{IsReady}
 
 pub print_turn-requires-clause-played : goal.print_turn-requires-clause-played
 print_turn-requires-clause-played g c =
@@ -41,6 +42,7 @@ loop-event-init g c = record {
   played = first-printed (program_of c.args.session.now) c.args.printer.now.flags c.args.events.now (g.K.Sink.written c.args.out.now) (g.K.Sink.written c.print_turn.new.out) c.mount-answer.result c.args.session.now c.mount-answer.new.self
       refl c.requires.page c.requires.numbers (mounts-new c.args.session.now c.mount-answer.new.self c.mount-answer.result c.requires.stage c.mount-answer.ensures.mounts)
       c.in_ok-print_turn.field-0 c.in_ok-print_turn.ensures.ended c.if-branch.false c.print_turn.new.session c.in_ok-print_turn.ensures.shown c.in_ok-print_turn.ensures.all;
+  ready = subst IsReady (sym c.in_ok-print_turn.ensures.shown) (ready-printed c.args.printer.now.flags c.mount-answer.result c.mount-answer.new.self c.mount-answer.ensures.ready);
   faults = c.print_turn.ensures.later;
 }
 
@@ -87,6 +89,7 @@ loop-event-preserved g c = record {
       c.turn-answer.result c.loop-event.session c.turn-answer.new.self c.event-item.result c.loop-event.invariant.program c.loop-event.invariant.shown c.loop-event.invariant.played c.loop-event.invariant.number c.loop-event-test.true
       c.event-item.is c.turn-answer.ensures.turns
       c.in_ok-print_turn-2.field-0 c.in_ok-print_turn-2.ensures.ended c.if-branch-2.false c.print_turn-in-loop-event.new.session c.in_ok-print_turn-2.ensures.shown c.in_ok-print_turn-2.ensures.all;
+  ready = subst IsReady (sym c.in_ok-print_turn-2.ensures.shown) (ready-printed c.args.printer.now.flags c.turn-answer.result c.turn-answer.new.self c.turn-answer.ensures.ready);
   faults = omega (arith, c.loop-event.invariant.faults, c.print_turn-in-loop-event.ensures.later);
 }
 

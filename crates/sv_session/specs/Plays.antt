@@ -6,12 +6,12 @@ use Rattle.sv_events.specs.declared.event.Event.{Event}
 use Rattle.sv_flush.specs.Outcome.{Outcome, Done, Halted}
 use Rattle.sv_flush.specs.declared.page.Page.{Page}
 use Rattle.sv_page.specs.Turns.{first_turn, next_turn, nodes_of}
-use Rattle.sv_page.specs.declared.session.Session.{Session}
-use Rattle.sv_page.specs.declared.stage.Stage.{Stage}
-use Rattle.sv_page.specs.declared.stage.Stage.TheVariants.{New, Running, Stopped}
-use Rattle.sv_page.specs.declared.stage.TurnError.{TurnError}
-use Rattle.sv_page.specs.declared.stage.TurnError.TheVariants as error
-use Rattle.sv_page.specs.declared.stage.Turned.{Turned}
+use Rattle.sv_session.specs.declared.session.Session.{Session}
+use Rattle.sv_session.specs.declared.stage.Stage.{Stage}
+use Rattle.sv_session.specs.declared.stage.Stage.TheVariants.{New, Running, Stopped}
+use Rattle.sv_session.specs.declared.stage.TurnError.{TurnError}
+use Rattle.sv_session.specs.declared.stage.TurnError.TheVariants as error
+use Rattle.sv_session.specs.declared.stage.Turned.{Turned}
 use Rattle.sv_store.specs.Stores.{subscription_count}
 
 abbrev pub program_of : Session → Program

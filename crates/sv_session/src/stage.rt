@@ -1,6 +1,6 @@
 // How far a session is, and what its turns answer.
 ghost use Rattle.std.specs.Prelude.{◌≡◌};
-ghost use Rattle.sv_page.specs.declared.stage.TurnError.TheVariants.{NoMemory as OutOfMemory};
+ghost use Rattle.sv_session.specs.declared.stage.TurnError.TheVariants.{NoMemory as OutOfMemory};
 
 use sv_base::NoMemory;
 use sv_parts::{PatchError, Refusal};
@@ -50,7 +50,7 @@ impl From<NoMemory> for TurnError {
 }
 
 impl From<PatchError> for TurnError {
-    ghost use Rattle.sv_page.specs.Errors.{of_patch};
+    ghost use Rattle.sv_session.specs.Errors.{of_patch};
 
     ghost from_gives = { λ error given. given ≡ of_patch error };
 

@@ -4,18 +4,21 @@ ghost use Rattle.sv_document.specs.Numbers.{numbered, unnumbered};
 ghost use Rattle.sv_document.specs.Printed.{html};
 ghost use Rattle.sv_flush.specs.Page.{blank};
 ghost use Rattle.sv_page.specs.Current.{IsCurrent};
-ghost use Rattle.sv_page.specs.Plays.{Mounts, Turns, IsShown, Keeps, told, program_of, shown_numbers};
+ghost use Rattle.sv_session.specs.Plays.{Mounts, Turns, IsShown, Keeps, told, program_of, shown_numbers};
+ghost use Rattle.sv_session.specs.Reached.{IsReached};
+ghost use Rattle.sv_session.specs.Ready.{IsReady};
 ghost use Rattle.sv_states.specs.Sound.{IsSound};
+ghost use Rattle.sv_within.specs.Runnable.{IsRunnable};
 
 use crate::stage::{Stage, TurnError, Turned};
-use crate::turns::{first_turn, next_turn};
 use std::alloc::Global;
 use sv_base::{NoMemory, Text};
 use sv_code::Program;
-use sv_document::{Nodes, Numbers, print};
+use sv_document::{Node, Nodes, Numbers, print};
 use sv_events::Event;
 use sv_flush::{Machine, Page};
-use sv_fresh::render;
+use sv_fresh::redraw;
+use sv_page::{first_turn, next_turn};
 
 /// A program on a page: what scripts left, what is shown and how that is numbered, and how far the page is.
 #[derive(Drop)]
@@ -28,8 +31,10 @@ pub struct Session<'a> {
 }
 
 impl<'a> Session<'a> {
-    /// A session whose page is still empty.
+    /// A session of a compiled program, whose page is still empty.
     pub fn begin(alloc: Global, program: &'a Program) -> Result<Session<'a>, NoMemory>
+        requires { IsRunnable program.now }
+        ensures ready { IfOk result IsReady }
         ensures program { IfOk result (λ session. program_of session ≡ program.now) }
         ensures page { IfOk result (λ session. session.page ≡ blank) }
         ensures numbers { IfOk result (λ session. session.numbers ≡ unnumbered) }
@@ -44,13 +49,15 @@ impl<'a> Session<'a> {
         })
     }
 
-    /// Mounts the page: module files run, the root is made with all below it, and a flush follows. After a refusal the session is stopped;
-    /// `Stopped` comes exactly where something was on the page already, and nothing is done. Whatever comes, the states are sound; where the
-    /// page was blank and is mounted, it is current.
+    /// Mounts the page: module files run, the root is made with all below it, and a flush follows. What is shown then is drawn of what patches
+    /// recorded, and is the fresh page of the present states. After a refusal the session is stopped; `Stopped` comes exactly where something was
+    /// on the page already, and nothing is done. Whatever comes, the states are sound; where the page is mounted, it is current.
     pub fn mount(&mut self) -> Result<Turned, TurnError>
+        requires { IsReady self.old }
+        ensures ready { IsReady self.new }
         ensures mounts { Mounts result self.old self.new }
         ensures sound { IsSound self.new.page.world.states }
-        ensures current { self.old.page ≡ blank → OnOk result (IsCurrent (program_of self.old) self.new.page) }
+        ensures current { OnOk result (IsCurrent (program_of self.old) self.new.page) }
     {
         let result = self.play_first();
         self.page.world.states.facts();
@@ -58,8 +65,10 @@ impl<'a> Session<'a> {
     }
 
     fn play_first(&mut self) -> Result<Turned, TurnError>
+        requires { IsReady self.old }
+        ensures ready { IsReady self.new }
         ensures mounts { Mounts result self.old self.new }
-        ensures current { self.old.page ≡ blank → OnOk result (IsCurrent (program_of self.old) self.new.page) }
+        ensures current { OnOk result (IsCurrent (program_of self.old) self.new.page) }
     {
         if self.stage != Stage::New {
             return Err(TurnError::Stopped);
@@ -69,13 +78,15 @@ impl<'a> Session<'a> {
         Ok(self.show(target)?)
     }
 
-    /// An event comes to the page: what it does, and a flush where there was an element for it. After a refusal the session is stopped;
-    /// `Stopped` comes exactly where the page isn't running, and nothing is done. Whatever comes, the states are sound; a page that was
-    /// current is so again once the turn has ended.
+    /// An event comes to the page: what it does, and a flush where there was an element for it. What is shown then is drawn of what patches
+    /// recorded, and is the fresh page of the present states. After a refusal the session is stopped; `Stopped` comes exactly where the page
+    /// isn't running, and nothing is done. Whatever comes, the states are sound; once the turn has ended, the page is current.
     pub fn turn(&mut self, event: &Event) -> Result<Turned, TurnError>
+        requires { IsReady self.old }
+        ensures ready { IsReady self.new }
         ensures turns { Turns result self.old self.new event.now }
         ensures sound { IsSound self.new.page.world.states }
-        ensures current { IsCurrent (program_of self.old) self.old.page → OnOk result (IsCurrent (program_of self.old) self.new.page) }
+        ensures current { OnOk result (IsCurrent (program_of self.old) self.new.page) }
     {
         let result = self.play_next(event);
         self.page.world.states.facts();
@@ -83,8 +94,10 @@ impl<'a> Session<'a> {
     }
 
     fn play_next(&mut self, event: &Event) -> Result<Turned, TurnError>
+        requires { IsReady self.old }
+        ensures ready { IsReady self.new }
         ensures turns { Turns result self.old self.new event.now }
-        ensures current { IsCurrent (program_of self.old) self.old.page → OnOk result (IsCurrent (program_of self.old) self.new.page) }
+        ensures current { OnOk result (IsCurrent (program_of self.old) self.new.page) }
     {
         if self.stage != Stage::Running {
             return Err(TurnError::Stopped);
@@ -94,8 +107,10 @@ impl<'a> Session<'a> {
         Ok(self.show(target)?)
     }
 
-    // What the page shows now, for the next event.
+    // Draws what the page shows now, for the next event.
     fn show(&mut self, target: bool) -> Result<Turned, NoMemory>
+        requires runnable { IsRunnable (program_of self.old) }
+        requires reached { IsReached (program_of self.old) self.old.page }
         ensures shown { OnOk result (IsShown self.new) }
         ensures told { IfOk result (λ turned. turned ≡ told target self.old.page) }
         ensures stage { OnErr result (self.new.stage ≡ self.old.stage) }
@@ -105,7 +120,7 @@ impl<'a> Session<'a> {
         let machine = &self.machine;
         let page = &self.page;
         let subscriptions = page.world.subscriptions()?;
-        self.nodes = render(machine.alloc, machine.program, &page.world, &page.showing)?;
+        self.nodes = redraw(machine.alloc, machine.program, &page.world, &page.showing)?;
         self.stage = Stage::Running;
         Ok(Turned {
             target,
@@ -136,6 +151,13 @@ impl<'a> Session<'a> {
         ensures { result ≡ self.now.stage }
     {
         self.stage
+    }
+
+    /// What is shown, as it was drawn after the last turn.
+    pub fn nodes(&self) -> &[Node]
+        ensures { result.now ≡ self.now.nodes }
+    {
+        self.nodes.as_slice()
     }
 
     /// What scripts logged in the last turn that was played, also in one that was refused.

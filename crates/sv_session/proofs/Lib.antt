@@ -1,0 +1,4 @@
+pub mod First
+pub mod Mounting
+pub mod Reaching
+pub mod Going

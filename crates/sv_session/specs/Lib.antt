@@ -1,0 +1,4 @@
+pub mod Errors
+pub mod Reached
+pub mod Plays
+pub mod Ready
