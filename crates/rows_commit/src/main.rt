@@ -2,9 +2,12 @@
 //! `sv_rows` says how rows are written.
 #![tactic(auto)]
 
+mod mirror;
 mod pages;
 mod shapes;
+mod steps;
 mod told;
+mod trees;
 
 use std::alloc::Global;
 use std::{io, str};
@@ -18,6 +21,9 @@ fn answer(alloc: Global, kind: &str, text: &[u8]) -> Result<String, NoMemory> {
     };
     match kind {
         "page" => pages::page(alloc, text),
+        "followed" => steps::changes(alloc, text),
+        "followed page" => steps::page(alloc, text),
+        "followed numbers" => steps::numbers(alloc, text),
         _ => pages::changes(alloc, text),
     }
 }

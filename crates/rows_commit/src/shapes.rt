@@ -1,7 +1,7 @@
 // What is to be shown, as a line of words: `1=a` is a text with the mark 1, `2:p` an element with the mark 2, behind which stand in
 // brackets, parted by commas, the texts in it, `2:p[3=b,4=c]`, and `#5` a child component at the place 5. Behind the name of an
-// element stand its attributes, `.0-class=x.1-hidden`, each with its slot, and behind `!` the text that is typed in it. Words with `+`
-// between are one block.
+// element stand its attributes, `.0-class=x.1-hidden`, each with its slot, and behind `!` the text that is typed in it, or `checked` or
+// `unchecked` for a box. Words with `+` between are one block.
 use std::alloc::Global;
 use sv_base::{NoMemory, Text};
 use sv_list::Items;
@@ -55,22 +55,53 @@ fn element(alloc: Global, mark: u64, word: &str) -> Result<Node, NoMemory> {
     Ok(Node::Element { own, parts })
 }
 
-fn own(alloc: Global, mark: u64, head: &str) -> Result<Own, NoMemory> {
-    let (shown, typed) = match head.split_once('!') {
-        Some((shown, typed)) => (shown, Some(Typed::Text(Text::new(alloc, typed)?))),
-        None => (head, None),
-    };
-    let (name, rest) = shown.split_once('.').unwrap_or((shown, ""));
+fn own(alloc: Global, mark: u64, words: &str) -> Result<Own, NoMemory> {
+    let Head {
+        name,
+        attributes,
+        typed,
+    } = head_of(alloc, words)?;
+    let own = Attributes::of(alloc, attributes.as_slice())?;
     Ok(Own {
         mark,
+        name,
+        attributes: own,
+        typed,
+    })
+}
+
+/// An element without its mark and what is in it.
+#[derive(Drop)]
+pub struct Head {
+    pub name: Text,
+    pub attributes: Items<Attribute>,
+    pub typed: Option<Typed>,
+}
+
+/// The head of an element.
+pub fn head_of(alloc: Global, words: &str) -> Result<Head, NoMemory> {
+    let (shown, typed) = match words.split_once('!') {
+        Some((shown, typed)) => (shown, Some(typed_as(alloc, typed)?)),
+        None => (words, None),
+    };
+    let (name, rest) = shown.split_once('.').unwrap_or((shown, ""));
+    Ok(Head {
         name: Text::new(alloc, name)?,
         attributes: attributes(alloc, rest)?,
         typed,
     })
 }
 
-fn attributes(alloc: Global, words: &str) -> Result<Attributes, NoMemory> {
-    let mut all = Attributes::new(alloc);
+fn typed_as(alloc: Global, word: &str) -> Result<Typed, NoMemory> {
+    match word {
+        "checked" => Ok(Typed::Checked(true)),
+        "unchecked" => Ok(Typed::Checked(false)),
+        text => Ok(Typed::Text(Text::new(alloc, text)?)),
+    }
+}
+
+fn attributes(alloc: Global, words: &str) -> Result<Items<Attribute>, NoMemory> {
+    let mut all = Items::new(alloc);
     for word in words.split('.') {
         if !word.is_empty() {
             all.push(attribute(alloc, word)?)?;
@@ -103,6 +134,7 @@ fn texts(alloc: Global, words: &str) -> Result<Nodes, NoMemory> {
     Ok(parts)
 }
 
-fn number(word: &str) -> u64 {
+/// The number that a word says.
+pub fn number(word: &str) -> u64 {
     word.parse::<u64>().unwrap_or(0)
 }

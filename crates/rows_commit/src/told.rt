@@ -1,9 +1,31 @@
-// A change, in words: 0 is the page, and as a place the end.
+// What is told, and the page, in words: 0 is the page, and as a place the end.
 use std::alloc::{AllocError, Global};
+use std::str;
+use sv_base::NoMemory;
+use sv_dom::{Dom, print};
+use sv_rows::push_part;
 use sv_tokens::{Attr, Change, Typed, What};
 
-/// What is told.
-pub fn told(alloc: Global, change: &Change) -> Result<String, AllocError> {
+/// Some changes, with `, ` between, or `none`.
+pub fn all_told(alloc: Global, changes: &[Change]) -> Result<String, NoMemory> {
+    let mut all = String::new(alloc);
+    for change in changes {
+        push_part(&mut all, ", ", told(alloc, change)?.as_str())?;
+    }
+    if all.is_empty() {
+        all.push_str("none")?;
+    }
+    Ok(all)
+}
+
+/// The text of a page, with or without printed numbers.
+pub fn printed(alloc: Global, page: &Dom, numbers: bool) -> Result<String, NoMemory> {
+    let text = print(alloc, page, numbers)?;
+    Ok(String::from_str(alloc, str::from_utf8(&text).unwrap_or("no text"))?)
+}
+
+// What is told.
+fn told(alloc: Global, change: &Change) -> Result<String, AllocError> {
     match change {
         Change::Make {
             serial,

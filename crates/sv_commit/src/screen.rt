@@ -1,7 +1,8 @@
 // A page, and what was told of it.
 ghost use Rattle.std.specs.Prelude.{◌≡◌, ◌≢◌, ◌≤◌, ◌+◌, ℕ, ◌++◌, ◌∷◌, [], IfOk, OnOk, None, option_to_list};
 ghost use Rattle.sv_tokens.specs.Counting.{Has, times};
-ghost use Rattle.sv_tokens.specs.Token.{begins, opens, texts, name_at, parent_at, Text as text_token, Anchor as anchor_token, IsPlace, IsBeside};
+ghost use Rattle.sv_tokens.specs.Numbering.{numbered};
+ghost use Rattle.sv_tokens.specs.Token.{begins, opens, texts, lacks_number, name_at, parent_at, Text as text_token, Anchor as anchor_token, IsPlace, IsBeside};
 ghost use Rattle.sv_tokens.specs.Edit.{Moved, Removed, Rewritten, with_text, with_element, with_attribute, without_slot, with_typed};
 ghost use Rattle.sv_tokens.specs.Replay.{Gains, element_tokens};
 ghost use Rattle.sv_live.specs.Shown.{name_of};
@@ -70,6 +71,24 @@ impl Screen {
         ensures { result.now ≡ self.now.changes }
     {
         self.changes.as_slice()
+    }
+
+    /// Drops what was told so far.
+    pub fn forget(&mut self)
+        ensures { self.new ≡ record self.old { changes = [] } }
+    {
+        self.changes = Items::new(self.alloc);
+    }
+
+    /// Gives each element and each text that has no printed number the next one, in document order. Nothing is told.
+    pub fn number(&mut self)
+        ensures tokens { self.new.page.tokens ≡ numbered self.old.page.number self.old.page.tokens }
+        ensures given { times lacks_number self.new.page.tokens ≡ 0 }
+        ensures number { self.new.page.number ≡ self.old.page.number + times lacks_number self.old.page.tokens }
+        ensures next { self.new.page.next ≡ self.old.page.next }
+        ensures told { self.new.changes ≡ self.old.changes }
+    {
+        self.dom.number();
     }
 
     // No two nodes have one key.

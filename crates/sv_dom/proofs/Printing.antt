@@ -8,7 +8,7 @@ use Rattle.sv_nodes.proofs.Finding.{rest-cons, rest-none}
 use Rattle.sv_html.specs.Html.{html, token_html}
 use Rattle.sv_dom.specs.Printed.{before_html, after_html}
 
-html-append : (numbers : Bool) (xs ys : List Token) → html numbers (xs ++ ys) ≡ html numbers xs ++ html numbers ys
+pub html-append : (numbers : Bool) (xs ys : List Token) → html numbers (xs ++ ys) ≡ html numbers xs ++ html numbers ys
 html-append numbers [] ys = refl
 html-append numbers (x ∷ xs) ys = ap (λ z. token_html numbers x ++ z) (html-append numbers xs ys) ∙ sym (append_assoc (token_html numbers x) (html numbers xs) (html numbers ys))
 

@@ -7,7 +7,7 @@ ghost use Rattle.sv_tokens.specs.Counting.{times, Has};
 ghost use Rattle.sv_tokens.specs.Token.{named, Text as text_token, Anchor as anchor_token, opens, texts, anchors, begins, identifies, first_key, lacks_number, name_at, parent_at, IsPlace, IsBeside};
 ghost use Rattle.sv_tokens.specs.Numbering.{numbered};
 ghost use Rattle.sv_tokens.specs.Edit.{Moved, Removed, with_text, with_element, with_attribute, without_slot, with_typed};
-ghost use Rattle.sv_tokens.specs.Seen.{view_of};
+ghost use Rattle.sv_tokens.specs.Seen.{seen, view_of, IsNumbered};
 ghost use Rattle.sv_tokens.specs.Replay.{replay, replay_if, element_tokens, Gains, Edits};
 ghost use Rattle.sv_tokens.specs.declared.change.What.{What};
 ghost use Rattle.sv_tokens.specs.declared.change.Change.TheVariants.{Make, Move};
@@ -92,11 +92,12 @@ impl Dom {
         })
     }
 
-    /// The page itself, under which everything stands. No two nodes have one key.
+    /// The page itself, under which everything stands. No two nodes have one key or one serial number.
     pub fn page(&self) -> Node
         ensures key { result.0 ≡ 0 }
         ensures stands { Has (opens 0) self.now.tokens }
         ensures once { (key : ℕ) → times (begins key) self.now.tokens ≤ 1 }
+        ensures numbered { IsNumbered (seen self.now.tokens) self.now.next }
     {
         let _ = &self.nodes;
         Node(0)

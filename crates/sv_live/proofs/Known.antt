@@ -32,10 +32,6 @@ known-append n (x ∷ xs) ys = ap (λ o. or_else o (hit n x)) (known-append n xs
 pub known-other : (n : ℕ) (l : Live) (xs : List Live) → number l ≢ n → known n (l ∷ xs) ≡ known n xs
 known-other n l xs ne = ap (λ o. or_else (known n xs) o) (hit-other n l ne) ∙ or_else-none (known n xs)
 
--- the last one
-pub known-last : (n : ℕ) (xs : List Live) (l : Live) → number l ≡ n → known n (xs ++ l ∷ []) ≡ Some l
-known-last n xs l e = known-append n xs (l ∷ []) ∙ ap (λ o. or_else o (known n xs)) (hit-same n l e)
-
 -- what is known behind it hides one
 pub known-hidden : (n : ℕ) (xs ys : List Live) (l : Live) → is_some (known n ys) ≡ true → known n ((xs ++ l ∷ []) ++ ys) ≡ known n (xs ++ ys)
 known-hidden n xs ys l some = known-append n (xs ++ l ∷ []) ys ∙ (go (known n ys) some ∙ sym (known-append n xs ys))

@@ -1,0 +1,4 @@
+pub mod Outline
+pub mod Slotted
+pub mod Followed
+pub mod Ways
