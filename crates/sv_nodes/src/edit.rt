@@ -75,8 +75,8 @@ fn put_content(content: &mut Content, attribute: Attribute) -> Result<(), NoMemo
     Ok(())
 }
 
-// Puts an attribute at its slot.
-fn put_attribute(attributes: &mut Vec<Attribute>, attribute: Attribute) -> Result<(), NoMemory>
+/// Puts an attribute at its slot, where it takes the place of one that is there. `NoMemory` comes only where memory runs out.
+pub fn put_attribute(attributes: &mut Vec<Attribute>, attribute: Attribute) -> Result<(), NoMemory>
     ensures ok { OnOk result (attributes.new.items ≡ put attribute attributes.old.items) }
     ensures err { OnErr result (attributes.new.items ≡ attributes.old.items) }
 {
@@ -124,8 +124,8 @@ fn drop_content(content: &mut Content, slot: u16)
     }
 }
 
-// Takes the first attribute at a slot away.
-fn drop_attribute(attributes: &mut Vec<Attribute>, slot: u16)
+/// Takes the first attribute at a slot away, if there is one.
+pub fn drop_attribute(attributes: &mut Vec<Attribute>, slot: u16)
     ensures { attributes.new.items ≡ drop_slot slot attributes.old.items }
 {
     let at = place_of_slot(attributes, slot);

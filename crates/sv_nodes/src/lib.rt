@@ -12,7 +12,9 @@ mod same;
 mod shift;
 mod shrink;
 
-pub use edit::{write_attribute, write_dropped, write_text, write_typed};
+pub use edit::{
+    drop_attribute, put_attribute, write_attribute, write_dropped, write_text, write_typed,
+};
 pub use entry::{Content, Element, Entry, entry_at};
 pub use find::{find_in, follower};
 pub use grow::{Made, make_node};

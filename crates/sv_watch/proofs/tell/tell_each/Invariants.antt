@@ -1,0 +1,9 @@
+use Rattle.std.proofs.Common.{map, drop}
+use Rattle.sv_watch.specs.Ear.{ear_of}
+use Rattle.sv_watch.proofs.Parting.{Leads}
+use Rattle.sv_watch.proofs.tell.tell_each.Given as goal
+
+abbrev pub invariant-loop-change : goal.invariant-loop-change
+invariant-loop-change g l =
+    Leads l.changes (drop l.change-index l.changes) (map (λ b. ear_of (goal.Watcher-dyn g (b.vtable, b.value)) b.value) l.fn.list.items) (map (λ b. ear_of (goal.Watcher-dyn g (b.vtable, b.value)) b.value) l.list.items)
+    (map (λ b. ear_of (goal.Watcher-dyn g (b.vtable, b.value)) b.value) l.fn.gone.items) (map (λ b. ear_of (goal.Watcher-dyn g (b.vtable, b.value)) b.value) l.gone.items)

@@ -1,0 +1,9 @@
+pub mod Ear
+pub mod Told
+pub mod Each
+pub mod Counter
+pub mod Picky
+pub mod Place
+pub mod Piece
+pub mod Page
+pub mod Mirror
