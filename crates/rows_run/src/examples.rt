@@ -1,4 +1,4 @@
-// The examples: folders with files, the words that they are run with, and what is printed then.
+// The examples: folders with files, the words that they are run with, and what is printed then; and their tests.
 use crate::runs::list;
 use std::alloc::Global;
 use sv_base::NoMemory;
@@ -7,19 +7,44 @@ use sv_run::run;
 
 /// What the example of a name prints, where it is run over some of its files: `as expected`, or else what it is.
 pub fn printed(rt: &HostRuntime, name: &str, files: &str) -> Result<String, NoMemory> {
-    let alloc = rt.alloc();
     let mut folder = DirShelf::new(rt.clone()?);
+    let words = words_of(rt.alloc(), &mut folder, name)?;
+    played(rt.alloc(), &mut folder, name, files, &words)
+}
+
+/// The same of its test, whose steps are in `test.json`, and of which `tested.txt` says what is printed.
+pub fn tested(rt: &HostRuntime, name: &str, files: &str) -> Result<String, NoMemory> {
+    let mut folder = DirShelf::new(rt.clone()?);
+    let words = list(rt.alloc(), "test App.svelte test.json")?;
+    played(rt.alloc(), &mut folder, name, files, &words)
+}
+
+// What the words print over some of its files.
+fn played<S: Shelf>(
+    alloc: Global,
+    folder: &mut S,
+    name: &str,
+    files: &str,
+    words: &[String],
+) -> Result<String, NoMemory> {
     let mut given = Vec::new(alloc);
     for file in files.split_whitespace() {
-        let bytes = bytes_of(alloc, &mut folder, name, file)?;
+        let bytes = bytes_of(alloc, folder, name, file)?;
         given.push((String::from_str(alloc, file)?, bytes))?;
     }
-    let words = words_of(alloc, &mut folder, name)?;
-    let expected = bytes_of(alloc, &mut folder, name, "expected.txt")?;
+    let expected = bytes_of(alloc, folder, name, expected_by(words))?;
     let mut shelf = MemShelf::new(given, Vec::new(alloc));
     let mut sink = MemSink::new(alloc, usize::MAX, Vec::new(alloc))?;
-    let _status = run(alloc, &words, &mut shelf, &mut sink);
+    let _status = run(alloc, words, &mut shelf, &mut sink);
     compared(alloc, sink.written(), &expected)
+}
+
+// The file that says what is to be printed.
+fn expected_by(words: &[String]) -> &'static str {
+    match words {
+        [command, ..] if command.as_str() == "test" => "tested.txt",
+        _ => "expected.txt",
+    }
 }
 
 fn compared(alloc: Global, written: &[u8], expected: &[u8]) -> Result<String, NoMemory> {

@@ -1,5 +1,5 @@
-//! Rows on whole programs: words and files, how a run of `svp` over them ends, and what it writes; whether each example prints what its folder
-//! says; what programs load to; and what shelves and sinks answer. `sv_rows` says how rows are written. Files stand in a row as `NAME: TEXT`,
+//! Rows on whole programs: words and files, how a run of `svp` over them ends, and what it writes; whether each example and its test print what
+//! its folder says; what programs load to; and what shelves and sinks answer. `sv_rows` says how rows are written. Files stand in a row as `NAME: TEXT`,
 //! with ` | ` between; `failing reads: 2`, `failing writes: 2` and `bytes a write: 3` among them say how the shelf and the sink go.
 #![tactic(auto)]
 
@@ -19,6 +19,7 @@ fn answer(rt: &HostRuntime, kind: &str, text: &[u8]) -> Result<String, NoMemory>
     let (asked, of) = kind.split_once(' ').unwrap_or((kind, ""));
     match asked {
         "example" => examples::printed(rt, of, str::from_utf8(text).unwrap_or("?")),
+        "tested" => examples::tested(rt, of, str::from_utf8(text).unwrap_or("?")),
         "svp" => runs::whole(alloc, of, text),
         "end" => runs::end(alloc, of.strip_prefix("of svp ").unwrap_or(of), text),
         "files" => loads::files(alloc, of.strip_prefix("from ").unwrap_or(of), text),

@@ -1,4 +1,4 @@
 pub mod Deciding
-pub mod Lists
 pub mod OneAnswer
 pub mod Running
+pub mod Testing

@@ -5,11 +5,15 @@ use Rattle.sv_io.specs.Files.{Files}
 use Rattle.sv_io.specs.Sink.{with_bytes, AppendsFront}
 use Rattle.sv_play.specs.Run.{printed}
 use Rattle.sv_play.specs.Summary.{summary}
-use Rattle.sv_run.specs.Answer.{Answer, usage, missing, source, source_at, events, turns, sums, accepted, listed, rendered, IsAnswer, status_of, text_of}
+use Rattle.sv_run.specs.Answer.{Answer, usage, missing, source, source_at, events, turns, sums, accepted, listed, rendered, tests, ended, status_of, text_of}
+use Rattle.sv_run.specs.Causes.{IsAnswer}
 use Rattle.sv_run.specs.Run.{Answers, BreaksOff, RunAnswers, RunCompletes, IsOneAnswer}
 use Rattle.sv_ssr.specs.First.{first_page}
 use Rattle.sv_run.specs.declared.status.Status.{Status}
 use Rattle.sv_run.specs.declared.status.Status.TheVariants as statuses
+use Rattle.sv_test.specs.Tested.{tested}
+use Rattle.sv_test.specs.declared.play.Ended.{Ended}
+use Rattle.sv_test.specs.declared.play.Ended.TheVariants as ends
 
 answer_given : (words : List (List ℕ)) (files : Files) (old new : Option (List ℕ)) (answer : Answer) → IsAnswer words files answer
     → new ≡ with_bytes old (text_of answer) → Answers words files old new (status_of answer)
@@ -20,6 +24,12 @@ turns_answered : (words : List (List ℕ)) (files : Files) (old new : Option (Li
     → RunAnswers words files old new (if refused then statuses.Turn else statuses.Ok)
 turns_answered words files old new true given = given
 turns_answered words files old new false given = given
+
+-- a test ends well, or with an expectation that didn't hold, or at a turn that is refused
+test_answered : (words : List (List ℕ)) (files : Files) (old new : Option (List ℕ)) (e : Ended) → Answers words files old new (ended e) → RunAnswers words files old new (ended e)
+test_answered words files old new ends.Passed given = given
+test_answered words files old new ends.Failed given = given
+test_answered words files old new ends.Refused given = given
 
 answered : (words : List (List ℕ)) (files : Files) (old new : Option (List ℕ)) (answer : Answer) → IsAnswer words files answer
     → new ≡ with_bytes old (text_of answer) → RunAnswers words files old new (status_of answer)
@@ -33,11 +43,17 @@ answered words files old new (sums program list) is written = turns_answered wor
 answered words files old new accepted is written = answer_given words files old new accepted is written
 answered words files old new (listed text) is written = answer_given words files old new (listed text) is written
 answered words files old new (rendered program) is written = turns_answered words files old new (first_page program).refused (answer_given words files old new (rendered program) is written)
+answered words files old new (tests program deeds) is written = test_answered words files old new (tested program deeds).ended (answer_given words files old new (tests program deeds) is written)
 
 -- no answer is given where a read or a write failed
 ends_otherwise : (other : Status) → (statuses.Turn ≢ other) → (statuses.Ok ≢ other) → (refused : Bool) → (if refused then statuses.Turn else statuses.Ok) ≢ other
 ends_otherwise other turn ok true = turn
 ends_otherwise other turn ok false = ok
+
+test_ends_otherwise : (other : Status) → (statuses.Ok ≢ other) → (statuses.Failed ≢ other) → (statuses.Turn ≢ other) → (e : Ended) → ended e ≢ other
+test_ends_otherwise other ok failed turn ends.Passed = ok
+test_ends_otherwise other ok failed turn ends.Failed = failed
+test_ends_otherwise other ok failed turn ends.Refused = turn
 
 pub no_read_fault : (answer : Answer) → status_of answer ≢ statuses.ReadFault
 no_read_fault usage = λ e. absurd (cc)
@@ -50,6 +66,7 @@ no_read_fault (sums program list) = ends_otherwise statuses.ReadFault (λ e. abs
 no_read_fault accepted = λ e. absurd (cc)
 no_read_fault (listed text) = λ e. absurd (cc)
 no_read_fault (rendered program) = ends_otherwise statuses.ReadFault (λ e. absurd (cc)) (λ e. absurd (cc)) (first_page program).refused
+no_read_fault (tests program deeds) = test_ends_otherwise statuses.ReadFault (λ e. absurd (cc)) (λ e. absurd (cc)) (λ e. absurd (cc)) (tested program deeds).ended
 
 pub no_write_fault : (answer : Answer) → status_of answer ≢ statuses.WriteFault
 no_write_fault usage = λ e. absurd (cc)
@@ -62,6 +79,7 @@ no_write_fault (sums program list) = ends_otherwise statuses.WriteFault (λ e. a
 no_write_fault accepted = λ e. absurd (cc)
 no_write_fault (listed text) = λ e. absurd (cc)
 no_write_fault (rendered program) = ends_otherwise statuses.WriteFault (λ e. absurd (cc)) (λ e. absurd (cc)) (first_page program).refused
+no_write_fault (tests program deeds) = test_ends_otherwise statuses.WriteFault (λ e. absurd (cc)) (λ e. absurd (cc)) (λ e. absurd (cc)) (tested program deeds).ended
 
 -- the answer was given
 pub run-answered : (words : List (List ℕ)) (files : Files) (old new : Option (List ℕ)) (status : Status) (answer : Answer) → IsAnswer words files answer

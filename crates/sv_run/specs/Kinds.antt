@@ -48,3 +48,4 @@ events_word fault.NotJson = codes "NotJson"
 events_word fault.BadForm = codes "BadForm"
 events_word fault.TooMany = codes "TooMany"
 events_word (fault.BadShape at) = codes "BadShape " ++ decimal at
+events_word (fault.BadSelector at) = codes "BadSelector " ++ decimal at

@@ -1,7 +1,7 @@
-pub mod Texts
-pub mod Words
 pub mod Kinds
 pub mod Generated
 pub mod Answer
+pub mod Beside
+pub mod Causes
 pub mod Run
 pub mod Job

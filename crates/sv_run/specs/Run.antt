@@ -2,7 +2,8 @@
 use Rattle.std.specs.Prelude.{◌≡◌, ◌⊎◌, ℕ, List, Option}
 use Rattle.sv_io.specs.Files.{Files}
 use Rattle.sv_io.specs.Sink.{with_bytes, AppendsFront}
-use Rattle.sv_run.specs.Answer.{Answer, IsAnswer, status_of, text_of}
+use Rattle.sv_run.specs.Answer.{Answer, status_of, text_of}
+use Rattle.sv_run.specs.Causes.{IsAnswer}
 use Rattle.sv_run.specs.declared.status.Status.{Status}
 use Rattle.sv_run.specs.declared.status.Status.TheVariants as statuses
 
@@ -35,6 +36,7 @@ RunAnswers words files old new statuses.Usage = Answers words files old new stat
 RunAnswers words files old new statuses.Source = Answers words files old new statuses.Source
 RunAnswers words files old new statuses.Events = Answers words files old new statuses.Events
 RunAnswers words files old new statuses.Missing = Answers words files old new statuses.Missing
+RunAnswers words files old new statuses.Failed = Answers words files old new statuses.Failed
 
 -- each answer that is called for is given, unless memory runs out
 abbrev pub RunCompletes : List (List ℕ) → Files → Option (List ℕ) → Option (List ℕ) → Status → Type 0

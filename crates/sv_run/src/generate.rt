@@ -1,20 +1,15 @@
 // What `gen N` asks for: a run of a large program that is made here.
-ghost use Rattle.std.specs.Prelude.{◌≡◌, ◌≢◌, ◌++◌, IfOk, IfSome, string_bytes, Some};
-ghost use Rattle.sv_check.specs.Checked.{AreChecked};
-ghost use Rattle.sv_lines.specs.Lines.{LinesAscend};
-ghost use Rattle.sv_run.specs.Answer.{Accepts, IsSummed};
+ghost use Rattle.std.specs.Prelude.{◌≡◌, ◌≢◌, IfOk, string_bytes};
+ghost use Rattle.sv_run.specs.Causes.{IsOver, IsSummed};
 ghost use Rattle.sv_run.specs.Generated as spec;
 ghost use Rattle.sv_run.specs.Job.{answer_of, IsPlayable};
 
 use crate::job::Job;
-use crate::play::compiled;
-use crate::refusals::{not_loaded, unclean};
+use crate::program::{Task, decide_program};
 use std::alloc::Global;
 use sv_base::{NoMemory, Text};
-use sv_check::{Checked, check};
 use sv_events::{Event, Target};
 use sv_io::{Got, Shelf, ShelfError};
-use sv_load::load;
 
 /// The name of the file of the generated program.
 pub const ROOT: &str = "App.svelte";
@@ -53,36 +48,16 @@ impl Shelf for Generated {
     }
 }
 
-/// The answer to `gen N`: the generated program is loaded and checked as any other, and compiled.
+/// The answer to `gen N`: the generated program is looked at as any other.
 pub fn decide_gen(alloc: Global, count: u32) -> Result<Job, ShelfError>
-    ensures answer { IfOk result (λ job. IsSummed count (answer_of job)) }
+    ensures answer { IfOk result (λ job. IsOver (spec.generated count) spec.root_name (IsSummed count) (answer_of job)) }
     ensures playable { IfOk result IsPlayable }
     ensures failed { result ≢ Err ShelfError.Failed }
 {
     let mut shelf = Generated {
         text: component_text(alloc, count)?,
     };
-    let bundle = match load(alloc, &mut shelf, ROOT) {
-        Ok(bundle) => bundle,
-        Err(error) => return not_loaded(alloc, &error),
-    };
-    match check(alloc, &bundle) {
-        Ok(checked) => summed(alloc, &checked, count),
-        Err(error) => unclean(alloc, &bundle, &error),
-    }
-}
-
-// The answer where the program is one without a mistake.
-fn summed(alloc: Global, checked: &Checked<'_>, count: u32) -> Result<Job, ShelfError>
-    requires checked { AreChecked checked.now.bundle.now checked.now.components }
-    requires lines { LinesAscend checked.now.bundle.now.files }
-    ensures answer { IfOk result (λ job. Accepts (spec.generated count) spec.root_name checked.now.bundle.now → IsSummed count (answer_of job)) }
-    ensures playable { IfOk result IsPlayable }
-    ensures failed { result ≢ Err ShelfError.Failed }
-{
-    let program = compiled(alloc, checked)?;
-    let events = clicks(alloc, count)?;
-    Ok(Job::Sum { program, events })
+    decide_program(alloc, ROOT, Task::Sum { count }, &mut shelf)
 }
 
 #[tactic(auto, unfolding(crate::specs::Generated::component_text))]
@@ -92,8 +67,8 @@ fn component_text(alloc: Global, count: u32) -> Result<String, NoMemory>
     Ok(format!(in alloc; "{HEAD}{count}{MIDDLE}{count}{TAIL}")?)
 }
 
-// As many clicks as a number says.
-fn clicks(alloc: Global, count: u32) -> Result<Vec<Event>, NoMemory>
+/// As many clicks as a number says.
+pub fn clicks(alloc: Global, count: u32) -> Result<Vec<Event>, NoMemory>
     ensures { IfOk result (λ events. events.items ≡ spec.clicks count) }
 {
     let mut events = Vec::new(alloc);

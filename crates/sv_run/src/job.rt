@@ -1,5 +1,7 @@
 // What a run is to do.
-ghost use Rattle.std.specs.Prelude.{◌≡◌, IfOk, string_bytes};
+ghost use Rattle.std.specs.Prelude.{◌≡◌, ◌≤◌, Err, IfOk, OnOk, OnErr, string_bytes};
+ghost use Rattle.sv_io.specs.Faults.{Rose};
+ghost use Rattle.sv_io.specs.Sink.{with_bytes, AppendsFront};
 ghost use Rattle.sv_run.specs.Answer.{status_of, text_of};
 ghost use Rattle.sv_run.specs.Job.{refusal_of};
 
@@ -9,7 +11,9 @@ use std::alloc::Global;
 use sv_base::NoMemory;
 use sv_code::Program;
 use sv_events::Event;
+use sv_io::{Sink, SinkError, write_all};
 use sv_play::Flags;
+use sv_steps::Step;
 
 /// Why no turn is run.
 #[derive(Drop)]
@@ -27,7 +31,7 @@ pub enum Refusal {
         column: usize,
         word: &'static str,
     },
-    /// The events file is refused.
+    /// The file of events or steps is refused.
     Events(EventsFault),
 }
 
@@ -53,14 +57,33 @@ pub enum Job {
     List(Vec<u8>),
     /// Print the first page of the program.
     Render(Program),
+    /// Print what becomes of these steps on the page of the program, or which of them has no selector.
+    Test {
+        program: Program,
+        steps: Vec<Step>,
+    },
 }
 
 const USAGE: &str =
-    "usage: svp run ROOT EVENTS [--log] [--watch] [--serials] [--tally] | check ROOT | print ROOT | gen N | render ROOT\n";
+    "usage: svp run ROOT EVENTS [--log] [--watch] [--serials] [--tally] | check ROOT | print ROOT | gen N | render ROOT | test ROOT EVENTS\n";
 
 impl Refusal {
-    /// The status with which the run ends.
-    pub fn status(&self) -> Status
+    /// Prints its line, and gives the status with which the run ends. What was written is the line, or a prefix of it where a write failed or memory
+    /// runs out.
+    pub fn print<K: Sink>(&self, alloc: Global, out: &mut K) -> Result<Status, SinkError>
+        ensures status { IfOk result (λ status. status ≡ status_of (refusal_of self.now)) }
+        ensures all { OnOk result (K.written out.new ≡ with_bytes (K.written out.old) (text_of (refusal_of self.now))) }
+        ensures front { OnErr result (AppendsFront (K.written out.old) (K.written out.new) (text_of (refusal_of self.now))) }
+        ensures later { K.faults out.old ≤ K.faults out.new }
+        ensures failed { result ≡ Err SinkError.Failed → Rose (K.faults out.old) (K.faults out.new) }
+    {
+        let line = self.line(alloc)?;
+        write_all(out, line.as_bytes())?;
+        Ok(self.status())
+    }
+
+    // The status with which the run ends.
+    fn status(&self) -> Status
         ensures { result ≡ status_of (refusal_of self.now) }
     {
         match self {
@@ -71,9 +94,9 @@ impl Refusal {
         }
     }
 
-    /// The line that is printed.
+    // The line that is printed.
     #[tactic(auto, unfolding(crate::specs::Answer::usage_line))]
-    pub fn line(&self, alloc: Global) -> Result<String, NoMemory>
+    fn line(&self, alloc: Global) -> Result<String, NoMemory>
         ensures { IfOk result (λ line. string_bytes line ≡ text_of (refusal_of self.now)) }
     {
         match self {

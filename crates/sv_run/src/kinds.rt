@@ -8,19 +8,21 @@ use sv_base::NoMemory;
 use sv_events::EventsError;
 use sv_resolve::CheckKind;
 
-/// Why an events file is refused.
+/// Why a file of events or steps is refused.
 #[derive(Clone, Copy, Debug, PartialEq, Eq)]
 pub enum EventsFault {
     /// It has more bytes than its limit.
     TooLong,
     /// Its bytes are no JSON.
     NotJson,
-    /// Its JSON isn't of the form of an events file.
+    /// Its JSON isn't of the form of such a file.
     BadForm,
-    /// It has more events than it may.
+    /// It has more events or steps than it may.
     TooMany,
-    /// The event with this number, from 0, is the first that has not the form of one.
+    /// The event or step with this number, from 0, is the first that has not the form of one.
     BadShape(u32),
+    /// The step with this number, from 0, is the first whose selector is none.
+    BadSelector(usize),
 }
 
 /// The word for why a file has no tree.
@@ -60,7 +62,7 @@ pub fn check_word(kind: CheckKind) -> &'static str
     }
 }
 
-/// Why an events file that tells no events is refused. `NoMemory` comes for `NoMemory`, which refuses none.
+/// Why a file that tells no events or steps is refused. `NoMemory` comes for `NoMemory`, which refuses none.
 pub fn events_fault(error: EventsError) -> Result<EventsFault, NoMemory>
     ensures { IfOk result (λ fault. spec.fault_in error ≡ Some fault) }
 {
@@ -86,6 +88,7 @@ impl fmt::Display for EventsFault {
             EventsFault::BadForm => f.write_str("BadForm"),
             EventsFault::TooMany => f.write_str("TooMany"),
             EventsFault::BadShape(at) => write!(f, "BadShape {at}"),
+            EventsFault::BadSelector(at) => write!(f, "BadSelector {at}"),
         }
     }
 }

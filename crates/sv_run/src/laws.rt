@@ -4,6 +4,7 @@ ghost use Rattle.sv_run.specs.Run.{IsOneAnswer};
 use sv_check::{mistake_or_clean, one_mistake};
 use sv_compile::{one_order, one_program};
 use sv_load::one_outcome;
+use sv_words::one_form;
 
 /// No words and files call for two different answers, so that each cause is exact.
 pub fn one_answer()
@@ -14,4 +15,5 @@ pub fn one_answer()
     mistake_or_clean();
     one_program();
     one_order();
+    one_form();
 }

@@ -4,7 +4,7 @@ ghost use Rattle.sv_ast.specs.declared.files.SourceFile.{SourceFile as AnySource
 ghost use Rattle.sv_check.specs.Checked.{IsCause};
 ghost use Rattle.sv_lines.specs.Lines.{LinesAscend};
 ghost use Rattle.sv_load.specs.declared.refusals.LoadError.TheVariants as LoadError;
-ghost use Rattle.sv_run.specs.Answer.{IsMistaken, load_answer, mistake_answer};
+ghost use Rattle.sv_run.specs.Causes.{IsMistaken, load_answer, mistake_answer};
 ghost use Rattle.sv_run.specs.Job.{answer_of, refusal_of, IsPlayable};
 
 use crate::job::{Job, Refusal};

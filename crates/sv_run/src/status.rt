@@ -9,7 +9,7 @@ pub enum Status {
     Usage,
     /// A file of the program was refused.
     Source,
-    /// The events file was refused.
+    /// The file of events or steps was refused.
     Events,
     /// A turn was refused.
     Turn,
@@ -21,4 +21,6 @@ pub enum Status {
     NoMemory,
     /// A file isn't there.
     Missing,
+    /// An expectation of a test didn't hold.
+    Failed = 10,
 }

@@ -2,23 +2,23 @@
 ghost use Rattle.std.specs.Prelude.{◌≡◌, ◌≤◌, IfOk, OnOk, OnErr, IfSome, if◌then◌else◌};
 ghost use Rattle.sv_io.specs.Faults.{Rose};
 ghost use Rattle.sv_io.specs.Sink.{with_bytes, AppendsFront};
-ghost use Rattle.sv_run.specs.Answer.{IsAnswer, status_of, text_of};
+ghost use Rattle.sv_run.specs.Answer.{status_of, text_of};
+ghost use Rattle.sv_run.specs.Causes.{IsAnswer};
 ghost use Rattle.sv_run.specs.Job.{answer_of, IsPlayable};
 ghost use Rattle.sv_run.specs.Run.{RunAnswers, RunCompletes};
-ghost use Rattle.sv_run.specs.Texts.{bytes_of};
+ghost use Rattle.sv_words.specs.Texts.{bytes_of};
 
-use crate::check::{decide_check, decide_print};
-use crate::command::{Command, command_of};
 use crate::generate::decide_gen;
 use crate::job::{Job, Refusal};
 use crate::laws::one_answer;
-use crate::play::decide_run;
-use crate::render::decide_render;
+use crate::program::{Task, decide_program};
 use crate::status::Status;
+use crate::steps::test_steps;
 use std::alloc::Global;
 use sv_io::{Shelf, ShelfError, Sink, SinkError, write_all};
 use sv_play::{play, summarize};
 use sv_ssr::render;
+use sv_words::{Command, command_of};
 
 // What the words and the files ask for.
 fn decide<F: Shelf>(alloc: Global, words: &[String], shelf: &mut F) -> Result<Job, ShelfError>
@@ -35,10 +35,13 @@ fn decide<F: Shelf>(alloc: Global, words: &[String], shelf: &mut F) -> Result<Jo
             root,
             events,
             flags,
-        } => decide_run(alloc, root, events, flags, shelf),
-        Command::Check { root } => decide_check(alloc, root, shelf),
-        Command::Print { root } => decide_print(alloc, root, shelf),
-        Command::Render { root } => decide_render(alloc, root, shelf),
+        } => decide_program(alloc, root, Task::Play { events, flags }, shelf),
+        Command::Check { root } => decide_program(alloc, root, Task::Accept, shelf),
+        Command::Print { root } => decide_program(alloc, root, Task::List, shelf),
+        Command::Render { root } => decide_program(alloc, root, Task::Render, shelf),
+        Command::Test { root, events } => {
+            decide_program(alloc, root, Task::Test { steps: events }, shelf)
+        }
         Command::Gen { count } => decide_gen(alloc, count),
     }
 }
@@ -60,11 +63,7 @@ fn answer<K: Sink>(alloc: Global, job: &Job, out: &mut K) -> Result<Status, Sink
     ensures failed { result ≡ Err SinkError.Failed → Rose (K.faults out.old) (K.faults out.new) }
 {
     match job {
-        Job::Refuse(refusal) => {
-            let line = refusal.line(alloc)?;
-            write_all(out, line.as_bytes())?;
-            Ok(refusal.status())
-        }
+        Job::Refuse(refusal) => refusal.print(alloc, out),
         Job::Play {
             program,
             events,
@@ -89,6 +88,7 @@ fn answer<K: Sink>(alloc: Global, job: &Job, out: &mut K) -> Result<Status, Sink
             let refused = render(alloc, program, out)?;
             Ok(turned(refused))
         }
+        Job::Test { program, steps } => test_steps(alloc, program, steps, out),
     }
 }
 

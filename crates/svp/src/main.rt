@@ -1,6 +1,6 @@
 //! The program `svp`: it reads a root component and a file of recorded events, and prints the page after mounting and
-//! after each event; or it checks a root component with all that it imports, or lists what it is compiled to. `run` of `sv_run` carries
-//! what is promised; `main` gives it the words of the command line, the present folder and standard output.
+//! after each event; or it checks a root component with all that it imports, lists what it is compiled to, prints its first page, or plays a
+//! test of it. `run` of `sv_run` carries what is promised; `main` gives it the words of the command line, the present folder and standard output.
 #![tactic(auto)]
 
 ghost use Rattle.std.specs.Prelude.{◌≡◌};
@@ -29,7 +29,7 @@ fn status_of(rt: &HostRuntime) -> Result<Status, NoMemory> {
     Ok(run(rt.alloc(), &words, &mut shelf, &mut out))
 }
 
-// The exit status, from 0 to 8.
+// The exit status: 0 to 8, or 10.
 fn exit_code(status: Status) -> u8
     ensures { result ≡ code_of status }
 {
