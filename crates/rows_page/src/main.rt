@@ -7,8 +7,11 @@
 //! - `page: FILES` is answered with what `svp run App.svelte` writes, and `page --log: FILES` with what it writes with these flags. Files stand
 //!   in the row as `NAME: TEXT`, with ` | ` between, and behind them perhaps `> click b, input q some text, change c true`: events with
 //!   the element's `id`, and with the text, the check or the key that they carry.
+//! - `drawn: COMPONENT` is answered with the page of the component, once it is mounted, as patches recorded it, and behind it with the page that
+//!   evaluations of the present states give, where that is another one.
 #![tactic(auto)]
 
+mod drawn;
 mod events;
 mod literals;
 mod pages;
@@ -40,6 +43,7 @@ fn found(alloc: Global, kind: &str, text: &[u8]) -> Result<String, Unanswered> {
     match asked {
         "value" => values::told(alloc, row),
         "script" => scripts::told(alloc, row),
+        "drawn" => drawn::told(alloc, row),
         "page" => Ok(pages::turns(alloc, flags, row)?),
         _ => Err(Unanswered::Kind),
     }
