@@ -2,7 +2,6 @@
 //! `sv_rows` says how rows are written.
 #![tactic(auto)]
 
-mod mirror;
 mod pages;
 mod shapes;
 mod steps;
@@ -24,6 +23,7 @@ fn answer(alloc: Global, kind: &str, text: &[u8]) -> Result<String, NoMemory> {
         "followed" => steps::changes(alloc, text),
         "followed page" => steps::page(alloc, text),
         "followed numbers" => steps::numbers(alloc, text),
+        "followed reports" => steps::reports(alloc, text),
         _ => pages::changes(alloc, text),
     }
 }

@@ -31,7 +31,7 @@ impl Watcher for Tally {
 
     ghost faults = { λ tally. tally.refused };
 
-    ghost report_of = { λ heard. decimal (length heard) };
+    ghost report_of = { λ _ heard. decimal (length heard) };
 
     fn tell(&mut self, change: &Change) -> Result<(), TellError> {
         if self.heard.len() >= self.most {

@@ -16,9 +16,13 @@ page_html-seen (Text node parent number bytes ∷ ts) = ap (λ z. token_html fal
 page_html-seen (Anchor key parent ∷ ts) = page_html-seen ts
 page_html-seen (Close node name ∷ ts) = ap (λ z. token_html false (Close node name) ++ z) (page_html-seen ts)
 
+-- so it is where a page is seen so
+pub page-text : (text : List ℕ) (v : View) (page : Page) → text ≡ page_html v.tokens → view_of page ≡ v → text ≡ html false page.tokens
+page-text text v page is same = is ∙ (ap (λ v. page_html v.tokens) (sym same) ∙ page_html-seen page.tokens)
+
 -- so a mirror reports the text of each page that is seen as its changes say
 pub mirror-page : (text : List ℕ) (cs : List Change) (page : Page) → text ≡ page_html (mirrored cs).tokens → view_of page ≡ mirrored cs → text ≡ html false page.tokens
-mirror-page text cs page is same = is ∙ (ap (λ v. page_html v.tokens) (sym same) ∙ page_html-seen page.tokens)
+mirror-page text cs page is same = page-text text (mirrored cs) page is same
 
 -- one more change
 pub mirrored-more : (v w : View) (cs : List Change) (c copy : Change) → v ≡ mirrored cs → w ≡ replay c v → copy ≡ c → w ≡ mirrored (cs ++ copy ∷ [])

@@ -1,19 +1,20 @@
 -- However a page is changed, each serial number starts once on it, and none from the next one on.
-use Rattle.std.proofs.Common.{◌≡◌, ◌≤◌, ◌+◌, ◌==◌, ℕ, zero, suc, List, [], ◌∷◌, ◌++◌, Bool, true, false, refl, ap, sym, ◌∙◌, arith, map}
-use Rattle.std.specs.Prelude.{if◌then◌else◌, ◌&&◌, nat_le}
+use Rattle.std.proofs.Common.{◌≡◌, ◌≤◌, ◌+◌, ◌==◌, ℕ, zero, suc, List, [], ◌∷◌, ◌++◌, Bool, true, false, Result, Ok, Err, refl, ap, sym, subst, ◌∙◌, arith, map}
+use Rattle.std.specs.Prelude.{if◌then◌else◌, ◌&&◌, nat_le, OnOk, OnErr}
 use Rattle.std.specs.List.{list_any}
 use Rattle.std.proofs.lemmas.Bool.{ne_eqb, eqb-true, leb-true}
+use Rattle.sv_base.specs.declared.memory.NoMemory.{NoMemory}
 use Rattle.sv_tokens.specs.Counting.{one, times}
 use Rattle.sv_tokens.specs.Seen.{Seen, Start, Words, End, View, starts, follows, IsNumbered}
 use Rattle.sv_tokens.specs.Edit.{with_attribute, without_slot, with_typed}
 use Rattle.sv_tokens.specs.Token.{Element}
-use Rattle.sv_tokens.specs.Replay.{made, put_before, rest_of, after, span_of, without, parent_in, moved, at_node, replay, replay_all, with_words, with_start}
+use Rattle.sv_tokens.specs.Replay.{made, put_before, rest_of, after, span_of, without, parent_in, moved, at_node, replay, with_words, with_start}
 use Rattle.sv_tokens.specs.declared.change.What.{What}
 use Rattle.sv_tokens.specs.declared.change.What.TheVariants as what
 use Rattle.sv_tokens.specs.declared.change.Change.{Change}
 use Rattle.sv_tokens.specs.declared.change.Change.TheVariants.{Make, SetText, SetAttr, DropAttr, SetTyped, Move, Remove}
 use Rattle.sv_tokens.proofs.Counting.{times-append, one-most}
-use Rattle.sv_watch.specs.Mirror.{blank, mirrored}
+use Rattle.sv_watch.specs.Mirror.{blank}
 use Rattle.sv_watch.proofs.Edits.{rest-after}
 
 -- ---- how often a test passes
@@ -112,7 +113,7 @@ joined v serial parent before w late n = record {
         let d = n.once s in
         omega (arith, a, b, c, d)
 
-numbered-one : (c : Change) (v : View) → IsNumbered v.tokens v.next → IsNumbered (replay c v).tokens (replay c v).next
+pub numbered-one : (c : Change) (v : View) → IsNumbered v.tokens v.next → IsNumbered (replay c v).tokens (replay c v).next
 numbered-one (Make serial parent before w) v n = go (nat_le v.next serial) (list_any (follows parent before) v.tokens) refl
   where
     grown : View
@@ -136,13 +137,14 @@ numbered-one (Move (suc m) before) v n = fewer v.tokens _ v.next (λ s. times-mo
 numbered-one (Remove zero) v n = n
 numbered-one (Remove (suc m)) v n = fewer v.tokens _ v.next (λ s. times-without (starts s) (suc m) v.tokens) n
 
-numbered-all : (cs : List Change) (v : View) → IsNumbered v.tokens v.next → IsNumbered (replay_all cs v).tokens (replay_all cs v).next
-numbered-all [] v n = n
-numbered-all (c ∷ cs) v n = numbered-all cs (replay c v) (numbered-one c v n)
-
--- so it is on the page that a mirror shows
-pub numbered : (cs : List Change) → IsNumbered (mirrored cs).tokens (mirrored cs).next
-numbered cs = numbered-all cs blank (record {
+-- so it is on the page with nothing on it
+pub numbered-blank : IsNumbered blank.tokens blank.next
+numbered-blank = record {
   once = λ s. let a = one-most (0 == s) in omega (arith, a);
   fresh = λ s late. let a = ap one (ne_eqb 0 s (λ e. omega (arith, e, late))) in omega (arith, a);
-})
+}
+
+-- and on a page to which a change was brought, or that stayed as it was
+pub numbered-kept : (c : Change) (v w : View) (r : Result (Unit {0}) NoMemory) → OnOk r (w ≡ replay c v) → OnErr r (w ≡ v) → IsNumbered v.tokens v.next → IsNumbered w.tokens w.next
+numbered-kept c v w (Ok u) ok err n = subst (λ z. IsNumbered z.tokens z.next) (sym ok) (numbered-one c v n)
+numbered-kept c v w (Err e) ok err n = subst (λ z. IsNumbered z.tokens z.next) (sym err) n

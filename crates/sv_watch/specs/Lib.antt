@@ -7,3 +7,4 @@ pub mod Place
 pub mod Piece
 pub mod Page
 pub mod Mirror
+pub mod Fits

@@ -45,7 +45,7 @@ impl Watcher for Counter {
 
     ghost faults = { λ _. 0 };
 
-    ghost report_of = { counts };
+    ghost report_of = { λ _. counts };
 
     fn tell(&mut self, change: &Change) -> Result<(), TellError>
         ensures heard { OnOk result (self.new ≡ self.old ++ change.now ∷ []) }

@@ -1,8 +1,10 @@
 // A watcher that shows the page.
 ghost use Rattle.std.specs.Prelude.{◌≡◌, ◌++◌, ◌∷◌, [], IfOk, OnOk, OnErr};
+ghost use Rattle.sv_watch.specs.Fits as spec;
+ghost use Rattle.sv_watch.specs.Mirror.{mirrored};
 
 use crate::copy::copy_of;
-use crate::page::{Page, apply, empty_page, print};
+use crate::replica::Replica;
 use crate::{TellError, Watcher};
 use std::alloc::Global;
 use std::marker::Model;
@@ -14,20 +16,19 @@ use sv_tokens::Change;
 #[derive(Drop)]
 pub struct Mirror {
     heard: Vec<Change>,
-    page: Page,
+    replica: Replica,
 }
 
 impl Model for Mirror {
     ghost use Rattle.std.specs.Prelude.{◌≡◌, List};
     ghost use Rattle.sv_tokens.specs.declared.change.Change.{Change};
-    ghost use Rattle.sv_watch.specs.Page.{view_in};
     ghost use Rattle.sv_watch.specs.Mirror.{mirrored};
 
     ghost Value = { List Change };
 
     ghost view = { λ mirror. mirror.heard.items };
 
-    ghost invariant = { λ mirror. view_in mirror.page ≡ mirrored mirror.heard.items };
+    ghost invariant = { λ mirror. mirror.replica ≡ mirrored mirror.heard.items };
 }
 
 impl Mirror {
@@ -35,11 +36,19 @@ impl Mirror {
     pub fn new(alloc: Global) -> Result<Mirror, NoMemory>
         ensures { IfOk result (λ mirror. mirror ≡ []) }
     {
-        let page = empty_page(alloc)?;
+        let replica = Replica::new(alloc)?;
         Ok(Mirror {
             heard: Vec::new(alloc),
-            page,
+            replica,
         })
+    }
+
+    /// Whether the change fits the page that the mirror shows: the nodes that it names are there and are of the kind that the change is
+    /// for, and the place that it names is there.
+    pub fn fits(&self, change: &Change) -> bool
+        ensures { result ≡ spec.fits change.now (mirrored self.now) }
+    {
+        self.replica.fits(change)
     }
 
     // Hears the change, or stays as it was.
@@ -49,7 +58,7 @@ impl Mirror {
     {
         let copy = copy_of(change)?;
         self.heard.push(copy)?;
-        if let Err(NoMemory) = apply(&mut self.page, change) {
+        if let Err(NoMemory) = self.replica.apply(change) {
             self.heard.pop();
             return Err(NoMemory);
         }
@@ -69,7 +78,7 @@ impl Watcher for Mirror {
 
     ghost faults = { λ _. 0 };
 
-    ghost report_of = { mirror_html };
+    ghost report_of = { λ _. mirror_html };
 
     fn tell(&mut self, change: &Change) -> Result<(), TellError>
         ensures heard { OnOk result (self.new ≡ self.old ++ change.now ∷ []) }
@@ -85,8 +94,6 @@ impl Watcher for Mirror {
         ensures text { IfOk result (λ bytes. bytes.items ≡ mirror_html self.now) }
         ensures page { IfOk result (λ bytes. (page : Tokens) → view_of page ≡ mirrored self.now → bytes.items ≡ html false page.tokens) }
     {
-        let mut out = Vec::new(alloc);
-        print(alloc, &self.page.pieces, &mut out)?;
-        Ok(out)
+        self.replica.html(alloc)
     }
 }

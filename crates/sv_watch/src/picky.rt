@@ -55,7 +55,7 @@ impl Watcher for Picky {
 
     ghost faults = { refusals };
 
-    ghost report_of = { λ _. [] };
+    ghost report_of = { λ _ _. [] };
 
     fn tell(&mut self, change: &Change) -> Result<(), TellError>
         ensures heard { OnOk result (self.new ≡ record self.old { heard = self.old.heard ++ change.now ∷ [] }) }

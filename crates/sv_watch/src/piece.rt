@@ -4,6 +4,8 @@ ghost use Rattle.sv_tokens.specs.Seen.{Start as start_seen, Words as words_seen,
 ghost use Rattle.sv_tokens.specs.Edit.{with_attribute, without_slot, with_typed};
 ghost use Rattle.sv_tokens.specs.Replay.{bare, parent_in, with_words, with_start};
 ghost use Rattle.sv_nodes.specs.Cells.{element_of};
+ghost use Rattle.std.specs.List.{list_any};
+ghost use Rattle.sv_watch.specs.Fits.{has_slot, is_at, is_holder, is_input, is_words};
 ghost use Rattle.sv_watch.specs.Mirror.{element_in, piece_html};
 
 use std::alloc::Global;
@@ -118,13 +120,62 @@ impl Piece {
         self.is_child_of(parent, before)
     }
 
-    fn is_child_of(&self, above: u64, node: u64) -> bool
+    /// Whether it is the first token of that child of the parent.
+    pub fn is_child_of(&self, above: u64, node: u64) -> bool
         ensures { result ≡ is_child_of above node self.now }
     {
         match &self.form {
             Form::Start { serial, parent, .. } => *serial == node && *parent == above,
             Form::Words { serial, parent, .. } => *serial == node && *parent == above,
             Form::End { .. } => false,
+        }
+    }
+
+    /// Whether it begins that element, or the page, whose number is 0.
+    pub fn is_holder(&self, node: u64) -> bool
+        ensures { result ≡ is_holder node self.now }
+    {
+        match &self.form {
+            Form::Start { serial, .. } => *serial == node,
+            _ => false,
+        }
+    }
+
+    /// Whether it is that text.
+    pub fn is_words(&self, node: u64) -> bool
+        ensures { result ≡ is_words node self.now }
+    {
+        match &self.form {
+            Form::Words { serial, .. } => *serial == node,
+            _ => false,
+        }
+    }
+
+    /// Whether it begins that element, which has an attribute at the slot.
+    pub fn has_slot(&self, node: u64, slot: u16) -> bool
+        ensures { result ≡ has_slot node slot self.now }
+    {
+        match &self.form {
+            Form::Start {
+                serial,
+                element,
+                ..
+            } => *serial == node && has_attribute(&element.attributes, slot),
+            _ => false,
+        }
+    }
+
+    /// Whether it begins that element, which is an `input`.
+    pub fn is_input(&self, node: u64) -> bool
+        ensures { result ≡ is_input node self.now }
+    {
+        match &self.form {
+            Form::Start {
+                serial,
+                element,
+                ..
+            } => *serial == node && element.name.as_str() == "input",
+            _ => false,
         }
     }
 
@@ -201,6 +252,13 @@ impl Piece {
             Form::End { serial, name } => print_end(out, *serial, name),
         }
     }
+}
+
+// Whether one of them is at the slot.
+fn has_attribute(attributes: &[Attribute], slot: u16) -> bool
+    ensures { result ≡ list_any (is_at slot) attributes.now }
+{
+    attributes.iter().any(|attribute| attribute.slot == slot)
 }
 
 // The tag that begins an element. The page itself has none.

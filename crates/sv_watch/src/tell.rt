@@ -2,7 +2,7 @@
 ghost use Rattle.std.specs.Prelude.{◌≡◌, ◌≤◌, ◌<◌, ◌+◌};
 ghost use Rattle.std.specs.Result.{is_ok};
 ghost use Rattle.std.specs.Vec.{vec_len, vec_capacity};
-ghost use Rattle.sv_watch.specs.Ear.{ear_in, ears_in};
+ghost use Rattle.sv_watch.specs.Ear.{ear_of, ears_of};
 ghost use Rattle.sv_watch.specs.Each.{TellsEach, Parts};
 ghost use Rattle.sv_watch.specs.Told.{Answers, Tells, TellsAt, Leaves};
 
@@ -13,13 +13,13 @@ use sv_tokens::Change;
 /// Tells each watcher of the list of the change, in their order. One that refuses it is moved to the end of `gone`. Room
 /// for all of them is made there first; where that is refused nobody was told. Where a watcher finds no memory, those before it
 /// were told, and it and the later ones are as they were.
-pub fn tell_all(
-    list: &mut Vec<Box<dyn Watcher>>,
-    gone: &mut Vec<Box<dyn Watcher>>,
+pub fn tell_all<W: Watcher>(
+    list: &mut Vec<W>,
+    gone: &mut Vec<W>,
     change: &Change,
 ) -> Result<(), NoMemory>
-    ensures { Tells change.now result (ears_in ⟦<dyn Watcher as Watcher>⟧ list.old.items) (ears_in ⟦<dyn Watcher as Watcher>⟧ list.new.items)
-        (ears_in ⟦<dyn Watcher as Watcher>⟧ gone.old.items) (ears_in ⟦<dyn Watcher as Watcher>⟧ gone.new.items) }
+    ensures { Tells change.now result (ears_of W.Watcher list.old.items) (ears_of W.Watcher list.new.items)
+        (ears_of W.Watcher gone.old.items) (ears_of W.Watcher gone.new.items) }
 {
     gone.reserve(list.len())?;
     let mut at = 0;
@@ -36,15 +36,15 @@ pub fn tell_all(
 /// Tells each watcher of the list of each change, one change after another, as `tell_all` does. Where memory is wanting, no
 /// later change is told. So one that is left has heard some of the first changes, or all where the answer is Ok, and one that
 /// went to `gone` has heard those before the one that it refused.
-pub fn tell_each(
-    list: &mut Vec<Box<dyn Watcher>>,
-    gone: &mut Vec<Box<dyn Watcher>>,
+pub fn tell_each<W: Watcher>(
+    list: &mut Vec<W>,
+    gone: &mut Vec<W>,
     changes: &[Change],
 ) -> Result<(), NoMemory>
-    ensures told { TellsEach changes.now result (ears_in ⟦<dyn Watcher as Watcher>⟧ list.old.items) (ears_in ⟦<dyn Watcher as Watcher>⟧ list.new.items)
-        (ears_in ⟦<dyn Watcher as Watcher>⟧ gone.old.items) (ears_in ⟦<dyn Watcher as Watcher>⟧ gone.new.items) }
-    ensures parts { Parts (is_ok result) changes.now (ears_in ⟦<dyn Watcher as Watcher>⟧ list.old.items) (ears_in ⟦<dyn Watcher as Watcher>⟧ list.new.items)
-        (ears_in ⟦<dyn Watcher as Watcher>⟧ gone.old.items) (ears_in ⟦<dyn Watcher as Watcher>⟧ gone.new.items) }
+    ensures told { TellsEach changes.now result (ears_of W.Watcher list.old.items) (ears_of W.Watcher list.new.items)
+        (ears_of W.Watcher gone.old.items) (ears_of W.Watcher gone.new.items) }
+    ensures parts { Parts (is_ok result) changes.now (ears_of W.Watcher list.old.items) (ears_of W.Watcher list.new.items)
+        (ears_of W.Watcher gone.old.items) (ears_of W.Watcher gone.new.items) }
 {
     for change in changes {
         tell_all(list, gone, change)?;
@@ -53,26 +53,26 @@ pub fn tell_each(
 }
 
 // Tells the watcher at a place.
-fn tell_at(list: &mut Vec<Box<dyn Watcher>>, at: usize, change: &Change) -> Result<(), TellError>
+fn tell_at<W: Watcher>(list: &mut Vec<W>, at: usize, change: &Change) -> Result<(), TellError>
     requires { at < vec_len list.old }
-    ensures told { TellsAt change.now result (ears_in ⟦<dyn Watcher as Watcher>⟧ list.old.items) (ears_in ⟦<dyn Watcher as Watcher>⟧ list.new.items) at }
+    ensures told { TellsAt change.now result (ears_of W.Watcher list.old.items) (ears_of W.Watcher list.new.items) at }
     ensures len { vec_len list.new ≡ vec_len list.old }
 {
     tell_one(&mut list[at], change)
 }
 
-fn tell_one(watcher: &mut Box<dyn Watcher>, change: &Change) -> Result<(), TellError>
-    ensures { Answers change.now result (ear_in ⟦<dyn Watcher as Watcher>⟧ watcher.old) (ear_in ⟦<dyn Watcher as Watcher>⟧ watcher.new) }
+fn tell_one<W: Watcher>(watcher: &mut W, change: &Change) -> Result<(), TellError>
+    ensures { Answers change.now result (ear_of W.Watcher watcher.old) (ear_of W.Watcher watcher.new) }
 {
     watcher.tell(change)
 }
 
 // Moves the watcher at a place to the end of `gone`, where there is room.
-fn let_go(list: &mut Vec<Box<dyn Watcher>>, at: usize, gone: &mut Vec<Box<dyn Watcher>>)
+fn let_go<W: Watcher>(list: &mut Vec<W>, at: usize, gone: &mut Vec<W>)
     requires inside { at < vec_len list.old }
     requires room { vec_len gone.old < vec_capacity gone.old }
-    ensures leaves { Leaves (ears_in ⟦<dyn Watcher as Watcher>⟧ list.old.items) (ears_in ⟦<dyn Watcher as Watcher>⟧ list.new.items)
-        (ears_in ⟦<dyn Watcher as Watcher>⟧ gone.old.items) (ears_in ⟦<dyn Watcher as Watcher>⟧ gone.new.items) at }
+    ensures leaves { Leaves (ears_of W.Watcher list.old.items) (ears_of W.Watcher list.new.items)
+        (ears_of W.Watcher gone.old.items) (ears_of W.Watcher gone.new.items) at }
     ensures fewer { vec_len list.new + 1 ≡ vec_len list.old }
     ensures more { vec_len gone.new ≡ vec_len gone.old + 1 }
     ensures capacity { vec_capacity gone.old ≤ vec_capacity gone.new }

@@ -37,19 +37,20 @@ pub trait Watcher: Drop {
     /// How many changes it has refused so far.
     ghost faults: { Self → ℕ };
 
-    /// What it reports of what it has heard.
-    ghost report_of: { List Change → List ℕ };
+    /// What it reports of changes that it has heard.
+    ghost report_of: { Self → List Change → List ℕ };
 
     /// Hears the change. Where it doesn't, what it has heard stays: it refuses a change only where its count of refusals
-    /// rises, and where it finds no memory that count stays too.
+    /// rises, and where it finds no memory that count stays too. What it would report of changes stays the same.
     fn tell(&mut self, change: &Change) -> Result<(), TellError>
         ensures heard { OnOk result (heard self.new ≡ heard self.old ++ change.now ∷ []) }
         ensures kept { OnErr result (heard self.new ≡ heard self.old) }
         ensures later { faults self.old ≤ faults self.new }
         ensures failed { result ≡ Err TellError.Refused → Rose (faults self.old) (faults self.new) }
-        ensures wants { result ≡ Err TellError.NoMemory → faults self.new ≡ faults self.old };
+        ensures wants { result ≡ Err TellError.NoMemory → faults self.new ≡ faults self.old }
+        ensures same { report_of self.new ≡ report_of self.old };
 
     /// What it has to say of all that it has heard.
     fn report(&self, alloc: Global) -> Result<Vec<u8>, NoMemory>
-        ensures { IfOk result (λ bytes. bytes.items ≡ report_of (heard self.now)) };
+        ensures { IfOk result (λ bytes. bytes.items ≡ report_of self.now (heard self.now)) };
 }

@@ -6,8 +6,8 @@ use Rattle.sv_watch.proofs.tell.tell_all.Given as goal
 
 abbrev pub invariant-loop-at : goal.invariant-loop-at
 invariant-loop-at g l = record {
-  begun : Begun l.change (map (λ b. ear_of (goal.Watcher-dyn g (b.vtable, b.value)) b.value) l.fn.list.items) (map (λ b. ear_of (goal.Watcher-dyn g (b.vtable, b.value)) b.value) l.list.items)
-      (map (λ b. ear_of (goal.Watcher-dyn g (b.vtable, b.value)) b.value) l.fn.gone.items) (map (λ b. ear_of (goal.Watcher-dyn g (b.vtable, b.value)) b.value) l.gone.items) l.at;
+  begun : Begun l.change (map (ear_of g.W.Watcher) l.fn.list.items) (map (ear_of g.W.Watcher) l.list.items)
+      (map (ear_of g.W.Watcher) l.fn.gone.items) (map (ear_of g.W.Watcher) l.gone.items) l.at;
   within : l.at ≤ vec_len l.list;
   room : vec_len l.gone + (vec_len l.list - l.at) ≤ vec_capacity l.gone;
 }

@@ -5,5 +5,5 @@ use Rattle.sv_watch.proofs.tell.tell_each.Given as goal
 
 abbrev pub invariant-loop-change : goal.invariant-loop-change
 invariant-loop-change g l =
-    Leads l.changes (drop l.change-index l.changes) (map (λ b. ear_of (goal.Watcher-dyn g (b.vtable, b.value)) b.value) l.fn.list.items) (map (λ b. ear_of (goal.Watcher-dyn g (b.vtable, b.value)) b.value) l.list.items)
-    (map (λ b. ear_of (goal.Watcher-dyn g (b.vtable, b.value)) b.value) l.fn.gone.items) (map (λ b. ear_of (goal.Watcher-dyn g (b.vtable, b.value)) b.value) l.gone.items)
+    Leads l.changes (drop l.change-index l.changes) (map (ear_of g.W.Watcher) l.fn.list.items) (map (ear_of g.W.Watcher) l.list.items)
+    (map (ear_of g.W.Watcher) l.fn.gone.items) (map (ear_of g.W.Watcher) l.gone.items)

@@ -1,8 +1,0 @@
-use Rattle.std.proofs.Common.{length}
-use Rattle.rows_commit.proofs.mirror.Mirror.cut.Given as goal
-
-abbrev pub invariant-loop-self : goal.invariant-loop-self
-invariant-loop-self l = Unit {0}
-
-abbrev pub decreases-loop-self : goal.decreases-loop-self
-decreases-loop-self l = length l.self.pieces.items
