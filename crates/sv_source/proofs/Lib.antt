@@ -1,0 +1,16 @@
+pub mod Names
+pub mod Tables
+pub mod Scopes
+pub mod Steps
+pub mod Loops
+pub mod Declaring
+pub mod Alike
+pub mod Forms
+pub mod Lines
+pub mod Found
+pub mod Making
+pub mod Trees
+pub mod Calls
+pub mod Programs
+pub mod Tops
+pub mod Meant
