@@ -1,10 +1,7 @@
 -- What watchers report.
-use Rattle.std.specs.Prelude.{ℕ, suc, List, [], ◌∷◌, ◌++◌, codes, decimal}
+use Rattle.std.specs.Prelude.{ℕ, suc, List, [], ◌∷◌, ◌++◌}
+use Rattle.sv_heads.specs.Lines.{watch_line}
 use Rattle.sv_watch.specs.Ear.{Ear}
-
--- the line above the report of a watcher, by its place
-unfoldable pub watch_line : ℕ → List ℕ
-watch_line number = codes "watch " ++ (decimal number ++ 10 ∷ [])
 
 -- the report of a watcher under its line, and a line feed
 abbrev pub report_at : ℕ → Ear → List ℕ

@@ -1,10 +1,11 @@
 // What watchers report.
-ghost use Rattle.std.specs.Prelude.{◌≡◌, ◌++◌, IfOk, OnOk, string_bytes};
+ghost use Rattle.std.specs.Prelude.{◌≡◌, ◌++◌, OnOk};
 ghost use Rattle.sv_audience.specs.Reports as spec;
 ghost use Rattle.sv_watch.specs.Ear.{ear_of, ears_of};
 
 use std::alloc::Global;
 use sv_base::NoMemory;
+use sv_heads::watch_line;
 use sv_watch::Watcher;
 
 /// Appends what each watcher reports, under a line with its place, from 1 on.
@@ -36,11 +37,4 @@ fn push_report<W: Watcher>(
     let report = watcher.report(alloc)?;
     text.extend_from_slice(&report)?;
     Ok(text.push(b'\n')?)
-}
-
-#[tactic(auto, unfolding(crate::specs::Reports::watch_line))]
-fn watch_line(alloc: Global, number: usize) -> Result<String, NoMemory>
-    ensures { IfOk result (λ line. string_bytes line ≡ spec.watch_line number) }
-{
-    Ok(format!(in alloc; "watch {number}\n")?)
 }
