@@ -4,8 +4,12 @@
 //! - `bytes: BYTES` is answered with the same, where each byte is a piece.
 //! - `spell: WORDS` is answered with the bytes of the spelling of an item, in hexadecimal digits.
 //! - `follow: BYTES` is answered with the page at each turn, up to the first change that doesn't fit.
+//! - `mirror: BYTES` is answered with all that is printed of a stream, and the fault that is answered.
+//! - `fronts: BYTES` is answered with the same of each front of the bytes, behind its length, where it isn't that of the front before.
+//! - `broken: BYTES` is answered with the same where eight bytes are written at a time, and the third write fails.
 #![tactic(auto)]
 
+mod mirrors;
 mod pages;
 mod spelling;
 mod streams;
@@ -23,6 +27,9 @@ fn answer(alloc: Global, kind: &str, bytes: &[u8]) -> Result<String, NoMemory> {
         "bytes" => streams::told_by_bytes(alloc, bytes),
         "spell" => spelling::spelled(alloc, str::from_utf8(bytes).unwrap_or("")),
         "follow" => pages::followed(alloc, bytes),
+        "mirror" => mirrors::mirrored(alloc, bytes),
+        "fronts" => mirrors::fronts(alloc, bytes),
+        "broken" => mirrors::broken(alloc, bytes),
         _ => Ok(String::from_str(alloc, "no such kind")?),
     }
 }

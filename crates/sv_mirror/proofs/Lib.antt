@@ -1,0 +1,4 @@
+pub mod Writing
+pub mod Telling
+pub mod Showing
+pub mod Course
